@@ -1,0 +1,4 @@
+pub mod Sets
+pub mod Refusals
+pub mod Machine
+pub mod Tables

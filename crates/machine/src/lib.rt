@@ -1,0 +1,1 @@
+// Definitions and theorems about any rule of steps; specs/ and proofs/ hold them, and there is no code here.

@@ -1,0 +1,81 @@
+-- Document 01's cases P1 to P11: what is given, and what has to come out.
+use Prim.Native.Nat.{ℕ}
+use mathlib.Core.List.{List, [], _∷_, _++_}
+use lib.ListN.{replicate, take}
+use Rattle.meaning.specs.Answers.{Answer, scheduler, tableAfter, checker}
+
+-- the scheduler on a graph with so many slots, its answer and the table; or the checker on a graph and a table
+pub data Case : Type 0 where
+  schedules : List ℕ → ℕ → Answer → List ℕ → Case
+  checks : List ℕ → List ℕ → Answer → Case
+
+-- the answer, and the first bytes of the table buffer
+pub record Outcome : Type 0 where
+  pub answer : Answer
+  pub table : List ℕ
+
+-- the slots lent hold ones and the table buffer 40 sevens
+unfoldable pub computed : Case → Outcome
+computed (schedules file slots expected table) =
+    record {
+      answer = scheduler file (replicate slots 1) (replicate 40 7);
+      table = tableAfter file (replicate slots 1) (replicate 40 7);
+    }
+computed (checks file table expected) = record { answer = checker file table; table = [] }
+
+-- a buffer of 40 sevens after a table was written to it
+unfoldable pub padded : List ℕ → List ℕ
+padded table = take 40 (table ++ replicate 40 7)
+
+unfoldable pub expected : Case → Outcome
+expected (schedules file slots answer table) = record { answer = answer; table = padded table }
+expected (checks file table answer) = record { answer = answer; table = [] }
+
+abbrev refusal : ℕ → ℕ → Answer
+refusal k p = record { number = k; place = p; cycles = 0; rows = 0; states = 0 }
+
+abbrev success : ℕ → ℕ → ℕ → Answer
+success cycles rows states = record { number = 0; place = 0; cycles = cycles; rows = rows; states = states }
+
+-- case A with the limit of class 1 given
+abbrev graphA : ℕ → List ℕ
+graphA limit =
+    0x48 ∷ 0x53 ∷ 0x01 ∷ 0x03 ∷ 0x02 ∷ 0x01 ∷ 0x00 ∷ 0x00 ∷ 0x10 ∷ 0x00 ∷ 0x12 ∷ 0x00 ∷ 0x1B ∷ 0x00 ∷ 0x1C ∷ 0x00
+    ∷ 0x01 ∷ limit ∷ 0x00 ∷ 0x00 ∷ 0x00 ∷ 0x01 ∷ 0x01 ∷ 0x00 ∷ 0x01 ∷ 0x00 ∷ 0x01 ∷ 0x00 ∷ []
+
+-- no operations, classes, controls, arcs
+abbrev graphEmpty : List ℕ
+graphEmpty = 0x48 ∷ 0x53 ∷ 1 ∷ 0 ∷ 0 ∷ 0 ∷ 0 ∷ 0 ∷ 16 ∷ 0 ∷ 16 ∷ 0 ∷ 16 ∷ 0 ∷ 16 ∷ 0 ∷ []
+
+-- follow arcs 0 to 1 and 0 to 2, one class, limit 1
+abbrev graphFollow : List ℕ
+graphFollow =
+    0x48 ∷ 0x53 ∷ 1 ∷ 3 ∷ 1 ∷ 0 ∷ 2 ∷ 0 ∷ 16 ∷ 0 ∷ 17 ∷ 0 ∷ 26 ∷ 0 ∷ 26 ∷ 0
+    ∷ 1 ∷ 0 ∷ 0 ∷ 0 ∷ 0 ∷ 0 ∷ 0 ∷ 0 ∷ 0 ∷ 0
+    ∷ 0 ∷ 1 ∷ 1 ∷ 0 ∷ 0 ∷ 0 ∷ 2 ∷ 1 ∷ 0 ∷ 0 ∷ []
+
+abbrev header : ℕ → ℕ → List ℕ
+header cycles rows = 0x48 ∷ 0x54 ∷ 1 ∷ cycles ∷ rows ∷ 0 ∷ 8 ∷ 0 ∷ []
+
+abbrev row : ℕ → ℕ → ℕ → ℕ → List ℕ
+row cycle values done step = cycle ∷ values ∷ done ∷ 0 ∷ 0 ∷ step ∷ 0 ∷ 0 ∷ []
+
+abbrev tableA : List ℕ
+tableA = header 2 3 ++ row 1 0 0 1 ++ row 2 0 1 4 ++ row 2 1 1 2
+
+abbrev pub cases : List Case
+cases =
+    schedules (graphA 1) 12 (success 2 3 12) tableA
+    ∷ schedules (graphA 1) 11 (refusal 12 0) []
+    ∷ schedules (graphA 2) 12 (success 1 1 12) (header 1 1 ++ row 1 0 0 7)
+    ∷ schedules graphEmpty 1 (success 0 0 1) (header 0 0)
+    ∷ schedules graphEmpty 0 (refusal 12 0) []
+    ∷ schedules graphFollow 2 (refusal 13 0) []
+    ∷ schedules graphFollow 1 (refusal 12 0) []
+    ∷ checks (graphA 1) (header 2 2 ++ row 1 0 0 3 ++ row 2 0 3 4) (success 2 2 0)
+    ∷ checks (graphA 1) (header 2 2 ++ row 1 0 0 1 ++ row 2 0 1 4) (refusal 19 1)
+    ∷ checks (graphA 1) (header 3 3 ++ row 1 0 0 1 ++ row 2 0 1 4 ++ row 2 1 1 2) (refusal 20 0)
+    ∷ checks (graphA 1) (header 2 3 ++ row 1 0 0 6 ++ row 2 0 1 4 ++ row 2 1 1 2) (refusal 18 1)
+    ∷ checks (graphA 1) (header 2 3 ++ row 1 0 0 1 ++ row 2 1 1 2 ++ row 2 0 1 4) (refusal 16 3)
+    ∷ checks (graphA 1) (header 2 3 ++ row 1 0 0 1 ++ row 2 0 1 4 ++ row 2 1 3 2) (refusal 17 3)
+    ∷ []

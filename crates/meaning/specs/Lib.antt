@@ -1,0 +1,5 @@
+pub mod Graph
+pub mod Steps
+pub mod TableFile
+pub mod Answers
+pub mod Cases
