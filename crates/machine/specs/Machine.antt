@@ -1,8 +1,8 @@
 -- Any rule of steps: finishing, remaining numbers, the chosen step, runs and reachable states.
-use Prim.Native.Nat.{ℕ, zero, suc, _<_, _≤_, _-_}
+use Prim.Native.Nat.{ℕ, zero, suc, _<_, _-_}
 use mathlib.Core.Path.{_≡_}
-use mathlib.Core.Bool.{Bool, true, false, cond, not, _&&_, _||_}
-use mathlib.Core.List.{List, [], _∷_, _++_}
+use mathlib.Core.Bool.{Bool, true, false, cond, _&&_, _||_}
+use mathlib.Core.List.{List, [], _∷_}
 use lib.ListN.{length}
 use lib.Dec.{T}
 use Rattle.machine.specs.Sets.{allBelow, anyBelow, firstBelow, listBelow}
@@ -25,27 +25,22 @@ pub record Machine : Type 1 where
   pub horizon : ℕ
 
 module _ (M : Machine) where
+  -- step x is legal in s and leads, however the tests fall, to states with the property f
+  unfoldable pub leads : (M .State → Bool) → M .State → ℕ → Bool
+  leads f s x = M .legal s x && allBelow (M .words) (λ w. f (M .next s x w))
+
   -- s can be brought to complete within t cycles, however the tests fall
   unfoldable pub finish : ℕ → M .State → Bool
   finish zero s = M .complete s
-  finish (suc t) s =
-      M .complete s || anyBelow (M .steps) (λ x. M .legal s x && allBelow (M .words) (λ w. finish t (M .next s x w)))
+  finish (suc t) s = M .complete s || anyBelow (M .steps) (leads (finish t) s)
 
   -- The remaining number: the least number of cycles within which s can finish. Above the horizon it is missing.
   unfoldable pub remaining : M .State → ℕ
   remaining s = firstBelow (suc (M .horizon)) (λ t. finish t s)
 
-  -- the state has a remaining number
-  unfoldable pub Finishes : M .State → Type 0
-  Finishes s = remaining s ≤ M .horizon
-
-  -- step x is legal in s and leads, however the tests fall, to states that finish within t cycles
-  unfoldable pub leads : ℕ → M .State → ℕ → Bool
-  leads t s x = M .legal s x && allBelow (M .words) (λ w. finish t (M .next s x w))
-
   -- The chosen step: the smallest that attains the remaining number.
   unfoldable pub best : M .State → ℕ
-  best s = firstBelow (M .steps) (leads (remaining s - 1) s)
+  best s = firstBelow (M .steps) (leads (finish (remaining s - 1)) s)
 
   -- The state after t cycles on the word w where f gives the step for a cycle (from 1) and a state. A complete run stops.
   unfoldable pub run : (ℕ → M .State → ℕ) → ℕ → ℕ → M .State

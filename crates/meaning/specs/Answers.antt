@@ -8,7 +8,7 @@ use Rattle.machine.specs.Sets.{countBelow}
 use Rattle.machine.specs.Refusals.{Line, placeless, Verdict, taken, refused, judge}
 use Rattle.machine.specs.Machine.{remaining, stateCount}
 use Rattle.machine.specs.Tables.{scheduleRows, orderLine, soundLines}
-use Rattle.meaning.specs.Graph.{Graph, fileLines, content, contentLines}
+use Rattle.meaning.specs.Graph.{Graph, operationsOf, classesOf, controlsOf, arcsOf, fileLines, content, contentLines}
 use Rattle.meaning.specs.Steps.{machineOf}
 use Rattle.meaning.specs.TableFile.{cyclesOf, rowsOf, rowStart, layoutLine, tableIn, scheduleFile}
 
@@ -34,9 +34,34 @@ isTaken (refused k p) = false
 unfoldable pub graphLines : List ℕ → List Line
 graphLines file = fileLines file ++ contentLines (content file)
 
--- The reader: a taken graph's answer carries no counts.
-unfoldable pub reader : List ℕ → Verdict
-reader file = judge (graphLines file)
+unfoldable pub graphVerdict : List ℕ → Verdict
+graphVerdict file = judge (graphLines file)
+
+-- What the reader answers: the refusal number with its place and zero counts, or number 0 with the graph's counts.
+pub record Reading : Type 0 where
+  pub number : ℕ
+  pub place : ℕ
+  pub operations : ℕ
+  pub classes : ℕ
+  pub controls : ℕ
+  pub arcs : ℕ
+
+unfoldable pub readingOf : Verdict → List ℕ → Reading
+readingOf taken file =
+    record {
+      number = 0;
+      place = 0;
+      operations = operationsOf file;
+      classes = classesOf file;
+      controls = controlsOf file;
+      arcs = arcsOf file;
+    }
+readingOf (refused k p) file =
+    record { number = k; place = p; operations = 0; classes = 0; controls = 0; arcs = 0 }
+
+-- The reader, for a graph file.
+unfoldable pub reader : List ℕ → Reading
+reader file = readingOf (graphVerdict file) file
 
 -- Refusals 12 to 14, for the slots lent and the length of the lent table buffer.
 unfoldable pub scheduleLines : Graph → ℕ → ℕ → List Line
@@ -58,7 +83,7 @@ module _ (file slots table : List ℕ) where
 
   -- the slots afterwards: as they were after 1 to 11, else zero
   unfoldable pub slotsAfter : List ℕ
-  slotsAfter = cond (isTaken (reader file)) (replicate (length slots) 0) slots
+  slotsAfter = cond (isTaken (graphVerdict file)) (replicate (length slots) 0) slots
 
   -- the table buffer afterwards: after success the schedule's file and then what stood there, else as it was
   unfoldable pub tableAfter : List ℕ

@@ -61,11 +61,8 @@ module _ (file : List ℕ) where
   unfoldable pub arcsOf : ℕ
   arcsOf = numberAt file 6 2
 
-  unfoldable pub limitsStart : ℕ
-  limitsStart = 16
-
   unfoldable pub operationsStart : ℕ
-  operationsStart = limitsStart + classesOf
+  operationsStart = 16 + classesOf
 
   unfoldable pub controlsStart : ℕ
   controlsStart = operationsStart + operationBytes editionOf * operationsOf
@@ -85,7 +82,7 @@ module _ (file : List ℕ) where
       (ltb (mostOperations editionOf) operationsOf || ltb (mostClasses editionOf) classesOf
       || ltb (mostControls editionOf) controlsOf || ltb (mostArcs editionOf) arcsOf)
       ∷ placeless 4
-      (not (eqb (numberAt file 8 2) limitsStart && eqb (numberAt file 10 2) operationsStart
+      (not (eqb (numberAt file 8 2) 16 && eqb (numberAt file 10 2) operationsStart
       && eqb (numberAt file 12 2) controlsStart && eqb (numberAt file 14 2) arcsStart))
       ∷ placeless 5 (not (eqb (length file) fileEnd))
       ∷ []
@@ -102,7 +99,7 @@ unfoldable pub content : List ℕ → Graph
 content file =
     record {
       edition = editionOf file;
-      limits = slice (limitsStart file) (operationsStart file) file;
+      limits = slice 16 (operationsStart file) file;
       operations = slice (operationsStart file) (controlsStart file) file;
       controls = slice (controlsStart file) (arcsStart file) file;
       arcs = slice (arcsStart file) (fileEnd file) file;

@@ -1,0 +1,4 @@
+pub mod Truth
+pub mod Sets
+pub mod Refusals
+pub mod Lawful
