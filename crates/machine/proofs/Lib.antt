@@ -2,4 +2,8 @@ pub mod Truth
 pub mod Sets
 pub mod Refusals
 pub mod Lawful
+pub mod Finish
+pub mod Runs
 pub mod Rising
+pub mod Lookup
+pub mod Schedule

@@ -29,7 +29,7 @@ module _ (M : Machine) (L : Lawful M) where
       first (λ q i. ⊎-elim (λ (u : List·Memᴰ q rs). f q u) (λ (v : List·Memᴰ q m). h r q (List·Memᴰ·head refl) v) (List·Memᴰ·append-cases rs i))
       (rising-append j k (λ a b u v. h a b (List·Memᴰ·tail u) v))
 
-  mem-at : (l : List (Row M)) (i : ℕ) (d : Row M) → i < length l → List·Memᴰ (getD l i d) l
+  pub mem-at : (l : List (Row M)) (i : ℕ) (d : Row M) → i < length l → List·Memᴰ (getD l i d) l
   mem-at [] i d h = absurd (not-suc-le-zero h)
   mem-at (r ∷ rs) zero d h = List·Memᴰ·head refl
   mem-at (r ∷ rs) (suc i) d h = List·Memᴰ·tail (mem-at rs i d (le-of-suc-le-suc h))
