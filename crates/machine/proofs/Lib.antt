@@ -3,7 +3,9 @@ pub mod Sets
 pub mod Refusals
 pub mod Lawful
 pub mod Finish
+pub mod Reach
 pub mod Runs
 pub mod Rising
+pub mod Search
 pub mod Lookup
 pub mod Schedule
