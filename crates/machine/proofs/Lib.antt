@@ -1,5 +1,6 @@
 pub mod Truth
 pub mod Sets
+pub mod Says
 pub mod Refusals
 pub mod Lawful
 pub mod Finish
@@ -9,3 +10,4 @@ pub mod Rising
 pub mod Search
 pub mod Lookup
 pub mod Schedule
+pub mod Sound

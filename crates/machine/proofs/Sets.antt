@@ -1,6 +1,6 @@
 -- Laws of sets as numbers and of tests, counts and lists below a bound. Assumes nothing.
 use Prim.Native.Nat.{ℕ, zero, suc, _+_, _-_, _*_, _^_, _/_, _%_, _≤_, _<_, zero-le}
-use native.Mathlib.Nat.{not-suc-le-zero, le-refl, le-suc, le-of-lt, lt-suc-self, lt-of-lt-of-le, lt-irrefl, eq-or-lt-of-le, le-of-suc-le-suc, add-zero, add-le-add, one-mul, zero-mul, suc-mul, mul-assoc, pow-succ', two-pow-succ, div-eq-of-lt, zero-div, mod-lt, mod-add-div', div-lt-iff-lt-mul, add-div-right, add-mul-div-right, add-mul-mod-self-right}
+use native.Mathlib.Nat.{not-suc-le-zero, le-refl, le-suc, le-of-lt, lt-suc-self, lt-of-lt-of-le, lt-irrefl, eq-or-lt-of-le, le-of-suc-le-suc, add-zero, add-suc, add-le-add, one-mul, zero-mul, suc-mul, mul-assoc, pow-succ', two-pow-succ, div-eq-of-lt, zero-div, mod-lt, mod-add-div', div-lt-iff-lt-mul, add-div-right, add-mul-div-right, add-mul-mod-self-right}
 use native.Mathlib.Omega.{arith}
 use mathlib.Core.Path.{_≡_, refl, sym, _∙_, ap, ap₂, subst}
 use mathlib.Core.Logic.{_⊎_, inl, inr, ⊎-elim}
@@ -295,6 +295,31 @@ member n m h l =
   where
     empty : T (not (anyBelow n (has m))) → m ≡ 0
     empty t = set-ext n m 0 h (pow-pos n) (λ j k. false-of (has m j) (any-failed n (has m) t j k) ∙ sym (has-zero j))
+
+-- a set is below 2 ^ n exactly when its members are below n.
+below-power : (m : ℕ) → m < 2 ^ m
+below-power zero = le-refl 1
+below-power (suc m) = omega (arith, below-power m, two-pow-succ m)
+
+pub member-below : (n m j : ℕ) → m < 2 ^ n → T (has m j) → j < n
+member-below n m j h t =
+    ⊎-elim (λ (k : n ≤ j). absurd (subst T (has-high m n j h k) t)) (λ (k : j < n). k) (le-or-lt n j)
+
+pub set-below : (n m : ℕ) → ((j : ℕ) → T (has m j) → j < n) → m < 2 ^ n
+unfolding maskBelow
+set-below n m f = narrow m (lt-of-lt-of-le (below-power m) (pow-mono (omega arith)))
+  where
+    shorter : (k : ℕ) → m < 2 ^ suc k → T (not (has m k)) → m < 2 ^ k
+    shorter k h t = subst (λ (i : ℕ). i < 2 ^ k) (same (false-of (has m k) t) ∙ mask-of-has (suc k) m h) (mask-lt k (has m))
+      where
+        same : has m k ≡ false → maskBelow k (has m) ≡ maskBelow (suc k) (has m)
+        same e = rw e (sym (add-zero (maskBelow k (has m))))
+
+    narrow : (k : ℕ) → m < 2 ^ (n + k) → m < 2 ^ n
+    narrow zero h = subst (λ (i : ℕ). m < 2 ^ i) (add-zero n) h
+    narrow (suc k) h =
+        narrow k (shorter (n + k) (subst (λ (i : ℕ). m < 2 ^ i) (add-suc n k) h)
+        (refuted (has m (n + k)) (λ t. omega (arith, f (n + k) t))))
 
 -- the elements of a list below a bound
 module _ {ℓ} {A : Type ℓ} where

@@ -1,1 +1,4 @@
 pub mod Cases
+pub mod Taken
+pub mod Legal
+pub mod Instance
