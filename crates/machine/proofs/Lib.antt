@@ -11,3 +11,4 @@ pub mod Search
 pub mod Lookup
 pub mod Schedule
 pub mod Sound
+pub mod Views
