@@ -2,11 +2,10 @@
 use Prim.Native.Nat.{ℕ, zero, suc, _≤_, _<_}
 use native.Mathlib.Nat.{zero-lt-suc, lt-irrefl}
 use mathlib.Core.Path.{_≡_, refl, subst}
-use mathlib.Core.Bool.{_&&_}
 use lib.Dec.{T, eqb, eqb→eq, eqb-refl}
 use Rattle.machine.specs.Sets.{firstBelow}
 use Rattle.machine.specs.Machine.{Machine}
-use Rattle.machine.specs.Tables.{Row, Table, standsAt, hasRow, prescribed}
+use Rattle.machine.specs.Tables.{Table, standsAt, hasRow, prescribed}
 use Rattle.machine.proofs.Truth.{and-left, and-right, both, true-of}
 use Rattle.machine.proofs.Sets.{any-at, any-of, first-some}
 use Rattle.machine.proofs.Lawful.{Lawful}

@@ -1,16 +1,16 @@
 -- What a refusal table means: a number is given at a place exactly when its line is at fault there, at no lower place of
 -- that line, and no earlier line is at fault anywhere. Assumes nothing.
 use Prim.Native.Nat.{ℕ, _<_}
-use native.Mathlib.Nat.{le-refl}
+use native.Mathlib.Nat.{le-refl, not-suc-le-zero}
 use native.Mathlib.Omega.{arith}
 use mathlib.Core.Path.{_≡_, refl, _∙_, ap, subst₂}
 use mathlib.Core.Logic.{_⊎_, inl, inr, ⊎-elim, _↔_}
-use mathlib.Core.Bool.{not}
+use mathlib.Core.Bool.{Bool, not}
 use mathlib.Core.List.{List, [], _∷_, _++_}
 use lib.Dec.{T}
 use borrow.Author.Tests.{lt-ltb, le-ltb}
 use Rattle.machine.specs.Sets.{firstBelow, anyBelow}
-use Rattle.machine.specs.Refusals.{Line, Verdict, taken, refused, judge}
+use Rattle.machine.specs.Refusals.{Line, placeless, taken, refused, judge}
 use Rattle.machine.proofs.Truth.{decided}
 use Rattle.machine.proofs.Sets.{First, first-none, first-some, first-unique, any-failed, none-any}
 
@@ -105,3 +105,16 @@ pass-append ls ms = (to ls, λ h. from (h .0) (h .1))
     from : {ls : List Line} → AllPass ls → AllPass ms → AllPass (ls ++ ms)
     from none k = k
     from (and h r) k = and h (from r k)
+
+-- lines that pass do not matter
+pub judge-after : {ls : List Line} → AllPass ls → (ms : List Line) → judge (ls ++ ms) ≡ judge ms
+judge-after none ms = refl
+judge-after (and {l = l} {ls = ls} h r) ms = judge-passes l (ls ++ ms) h ∙ judge-after r ms
+
+-- a line whose place is not named is its test
+pub placeless-fault : (k : ℕ) (b : Bool) (ls : List Line) → T b → judge (placeless k b ∷ ls) ≡ refused k 0
+placeless-fault k b ls t =
+    judge-fault (placeless k b) ls 0 (record { below = omega arith; holds = t; least = λ i h. absurd (not-suc-le-zero h) })
+
+pub placeless-passes : (k : ℕ) (b : Bool) (ls : List Line) → T (not b) → judge (placeless k b ∷ ls) ≡ judge ls
+placeless-passes k b ls t = judge-passes (placeless k b) ls (λ p h. t)

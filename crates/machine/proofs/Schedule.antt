@@ -1,23 +1,22 @@
 -- The schedule's table is ordered and sound, no sound table has fewer cycles, and where the start has no remaining number
 -- no table is sound. Assumes nothing.
-use Prim.Native.Nat.{ℕ, zero, suc, _-_, _≤_, _<_, zero-le}
+use Prim.Native.Nat.{ℕ, zero, suc, _-_, _≤_, _<_}
 use native.Mathlib.Nat.{le-refl, le-of-lt, sub-self, zero-lt-suc, lt-irrefl}
 use native.Mathlib.Omega.{arith}
 use mathlib.Core.Path.{_≡_, refl, sym, _∙_, ap, subst}
-use mathlib.Core.Logic.{_⊎_, inl, inr, ⊎-elim}
-use mathlib.Core.Bool.{Bool, true, false, cond, not, _&&_, _||_}
-use mathlib.Core.List.{List·Memᴰ}
+use mathlib.Core.Logic.{⊎-elim}
+use mathlib.Core.Bool.{false, not, _&&_, _||_}
 use lib.ListN.{length, getD}
-use lib.Dec.{T, eqb, eqb→eq, eqb-refl}
-use Rattle.machine.specs.Sets.{allBelow, anyBelow, firstBelow}
+use lib.Dec.{T, eqb, eqb-refl}
+use Rattle.machine.specs.Sets.{allBelow}
 use Rattle.machine.specs.Machine.{Machine, finish, remaining, best, run}
-use Rattle.machine.specs.Tables.{Row, Table, standsAt, hasRow, prescribed, orderLine, Sound, scheduleRows, tableOf, schedule}
-use Rattle.machine.proofs.Truth.{and-left, and-right, both, or-left, or-right, decided, contrary, refuted, false-of, of-false}
-use Rattle.machine.proofs.Sets.{le-or-lt, all-at, all-failed, any-of, First, first-some}
+use Rattle.machine.specs.Tables.{Row, Table, prescribed, orderLine, Sound, scheduleRows, tableOf, schedule}
+use Rattle.machine.proofs.Truth.{and-right, both, or-left, or-right, decided, contrary, refuted, false-of, of-false}
+use Rattle.machine.proofs.Sets.{le-or-lt, all-at, all-failed}
 use Rattle.machine.proofs.Refusals.{Passes}
 use Rattle.machine.proofs.Lawful.{Lawful}
 use Rattle.machine.proofs.Finish.{finish-complete, finish-later, remaining-finish, remaining-least, remaining-of-finish, best-legal, best-finishes}
-use Rattle.machine.proofs.Runs.{run-stopped, run-clock, run-stays, run-ended-after, run-word, run-word-below, LegalRun, runs-finish}
+use Rattle.machine.proofs.Runs.{run-stopped, run-clock, run-ended-after, run-word, run-word-below, LegalRun, runs-finish}
 use Rattle.machine.proofs.Lookup.{Stands, found-row, prescribed-found}
 use Rattle.machine.proofs.Rising.{mem-at, at-mem, rising-passes, schedule-rising, scheduled, scheduledRow, shows, row-of, of-row}
 

@@ -1,11 +1,11 @@
 -- Laws of sets as numbers and of tests, counts and lists below a bound. Assumes nothing.
 use Prim.Native.Nat.{ℕ, zero, suc, _+_, _-_, _*_, _^_, _/_, _%_, _≤_, _<_, zero-le}
-use native.Mathlib.Nat.{not-suc-le-zero, le-refl, le-suc, le-of-lt, lt-suc-self, lt-of-lt-of-le, lt-irrefl, eq-or-lt-of-le, le-of-suc-le-suc, add-zero, add-suc, add-le-add, one-mul, zero-mul, suc-mul, mul-assoc, pow-succ', two-pow-succ, div-eq-of-lt, zero-div, mod-lt, mod-add-div', div-lt-iff-lt-mul, add-div-right, add-mul-div-right, add-mul-mod-self-right}
+use native.Mathlib.Nat.{not-suc-le-zero, le-refl, le-of-lt, lt-suc-self, lt-of-lt-of-le, lt-irrefl, eq-or-lt-of-le, le-of-suc-le-suc, add-zero, add-suc, add-le-add, one-mul, zero-mul, suc-mul, mul-assoc, pow-succ', two-pow-succ, div-eq-of-lt, zero-div, mod-lt, mod-add-div', div-lt-iff-lt-mul, add-div-right, add-mul-div-right, add-mul-mod-self-right}
 use native.Mathlib.Omega.{arith}
 use mathlib.Core.Path.{_≡_, refl, sym, _∙_, ap, ap₂, subst}
 use mathlib.Core.Logic.{_⊎_, inl, inr, ⊎-elim}
 use mathlib.Core.Bool.{Bool, true, false, cond, not, _&&_}
-use mathlib.Core.List.{List, [], _∷_, _++_, List·Memᴰ, Memᴰ·append-left, Memᴰ·append-right, List·Memᴰ·append-cases, List·Memᴰ·not-nil}
+use mathlib.Core.List.{List, List·Memᴰ, Memᴰ·append-left, Memᴰ·append-right, List·Memᴰ·append-cases, List·Memᴰ·not-nil}
 use lib.ListN.{length, length-append}
 use lib.Dec.{T, eqb, leb, leb→le, nleb→lt}
 use lib.Pow.{pow-pos, pow-mono, pow-add}

@@ -1,23 +1,23 @@
 -- The checker accepts exactly the sound tables: a table whose rows rise passes refusals 17 to 20 just when it is sound.
 -- Assumes nothing.
 use Prim.Native.Nat.{ℕ, zero, suc, _-_, _≤_, _<_, zero-le}
-use native.Mathlib.Nat.{not-suc-le-zero, lt-suc-self, lt-irrefl, le-refl, le-of-eq, le-antisymm, eq-or-lt-of-le, le-of-suc-le-suc}
+use native.Mathlib.Nat.{not-suc-le-zero, lt-suc-self, lt-irrefl, le-refl, le-of-eq, le-antisymm, eq-or-lt-of-le}
 use native.Mathlib.Omega.{arith}
 use mathlib.Core.Path.{_≡_, refl, sym, _∙_, ap, subst, subst₂}
 use mathlib.Core.Logic.{_⊎_, inl, inr, ⊎-elim}
-use mathlib.Core.Bool.{Bool, true, false, cond, not, _&&_, _||_}
+use mathlib.Core.Bool.{Bool, false, cond, not, _&&_, _||_}
 use mathlib.Core.List.{List, [], _∷_, _++_}
 use lib.Dec.{T, eqb, ltb, eqb→eq, eqb-refl, eqb·suc-zero, ltb→lt, lt→ltb}
 use borrow.Author.Tests.{eq-eqb, ne-eqb}
-use Rattle.machine.specs.Sets.{allBelow, anyBelow, firstBelow, listBelow}
+use Rattle.machine.specs.Sets.{anyBelow, firstBelow, listBelow}
 use Rattle.machine.specs.Refusals.{Line, line, lineAt, placeless}
 use Rattle.machine.specs.Machine.{Machine, run}
 use Rattle.machine.specs.Tables.{Row, Table, rises, standsAt, hasRow, prescribed, follows, continues, lastCycle, orderLine, soundLines, Sound}
-use Rattle.machine.proofs.Truth.{and-left, and-right, both, or-cases, or-left, or-right, not-and, and-not, not-or-left, not-or-right, neither, decided, contrary, refuted, not-not-elim, not-not-intro, true-of, false-of, of-true, of-false}
+use Rattle.machine.proofs.Truth.{and-left, and-right, both, or-cases, or-left, or-right, not-and, and-not, not-or-left, not-or-right, neither, decided, contrary, not-not-elim, not-not-intro, true-of, false-of, of-true, of-false}
 use Rattle.machine.proofs.Sets.{below-cases, le-or-lt, trichotomy, all-at, all-of, any-at, any-of, First, first-some}
 use Rattle.machine.proofs.Refusals.{Passes, AllPass, none, and}
 use Rattle.machine.proofs.Lawful.{Lawful}
-use Rattle.machine.proofs.Runs.{run-stopped, run-clock, run-ended-after, run-unfinished-before, branch, run-legal}
+use Rattle.machine.proofs.Runs.{run-clock, run-ended-after, run-unfinished-before, branch, run-legal}
 
 -- Tables of refusals that pass: their parts, and lines that look at one place.
 pass-head : {l : Line} {ls : List Line} → AllPass (l ∷ ls) → Passes l

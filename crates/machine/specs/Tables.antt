@@ -1,7 +1,7 @@
 -- Tables of rows over any rule of steps: the checker's refusals 16 to 20, what a sound table is, and the schedule's table.
 use Prim.Native.Nat.{ℕ, zero, suc, _<_, _≤_, _-_}
 use mathlib.Core.Path.{_≡_}
-use mathlib.Core.Bool.{Bool, true, false, cond, not, _&&_, _||_}
+use mathlib.Core.Bool.{Bool, false, cond, not, _&&_, _||_}
 use mathlib.Core.List.{List, [], _∷_, _++_}
 use lib.ListN.{length, getD}
 use lib.Dec.{T, eqb, ltb}

@@ -1,15 +1,12 @@
 -- Demand 2: the definitions of states and legal steps say what document 01 says, constraint by constraint, for every
 -- graph, taken or not. Assumes nothing.
-use Prim.Native.Nat.{ℕ, zero, suc, _+_, _^_, _≤_, _<_}
-use native.Mathlib.Nat.{le-refl, lt-of-lt-of-le, add-zero, add-suc, two-pow-succ}
-use native.Mathlib.Omega.{arith}
-use mathlib.Core.Path.{_≡_, refl, sym, _∙_, subst}
-use mathlib.Core.Logic.{_⊎_, ⊎-elim, _↔_}
+use Prim.Native.Nat.{ℕ, _^_, _≤_, _<_}
+use mathlib.Core.Path.{_≡_, refl, _∙_, subst}
+use mathlib.Core.Logic.{_⊎_, _↔_}
 use mathlib.Core.Bool.{false, cond, not, _&&_, _||_}
 use lib.Dec.{T, eqb, ltb}
-use lib.Pow.{pow-mono}
-use Rattle.machine.specs.Sets.{has, allBelow, countBelow, maskBelow}
-use Rattle.machine.proofs.Truth.{or-cases, or-left, or-right, refuted, true-of, false-of}
+use Rattle.machine.specs.Sets.{has, allBelow, countBelow}
+use Rattle.machine.proofs.Truth.{or-cases, or-left, or-right, true-of, false-of}
 use Rattle.machine.proofs.Sets.{member-below, set-below, has-high, has-mask, mask-lt}
 use Rattle.meaning.specs.Graph.{Graph, Literals, operationCount, classCount, controlCount, arcCount, limit, class, path, producer, source, target, kind, joins}
 use Rattle.meaning.specs.Steps.{resolved, lost, excluded, void, complete, heldBack, demanded, overfull, legal, after}

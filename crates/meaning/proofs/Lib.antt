@@ -5,3 +5,4 @@ pub mod Instance
 pub mod Bytes
 pub mod TableFile
 pub mod Query
+pub mod Demands

@@ -1,18 +1,17 @@
 -- What a graph guarantees whose file passes refusals 1 to 5 and whose content passes refusals 6 to 11, a named fact or
 -- more for each refusal. Assumes nothing.
-use Prim.Native.Nat.{ℕ, suc, _-_, _^_, _/_, _≤_, _<_}
+use Prim.Native.Nat.{ℕ, _-_, _^_, _/_, _≤_, _<_}
 use native.Mathlib.Nat.{le-refl, mul-div-right}
 use native.Mathlib.Omega.{arith}
 use mathlib.Core.Path.{_≡_, sym, _∙_, ap, subst}
-use mathlib.Core.Logic.{_⊎_, inl, inr, ⊎-elim, _↔_, _≢_}
-use mathlib.Core.Bool.{Bool, not, _&&_, _||_}
-use mathlib.Core.List.{List, [], _∷_, _++_}
+use mathlib.Core.Logic.{_⊎_, inl, ⊎-elim, _≢_}
+use mathlib.Core.Bool.{not, _&&_, _||_}
+use mathlib.Core.List.{List}
 use lib.ListN.{length}
 use lib.Seq.{slice, length-slice}
-use lib.Dec.{T, eqb, leb, ltb, leb→le, le→leb, nleb→lt, eqb→eq, eqb-refl, lit<}
-use Rattle.machine.specs.Sets.{has, allBelow, anyBelow}
-use Rattle.machine.specs.Refusals.{Line}
-use Rattle.machine.proofs.Says.{Says, Denies, says-test, denies-test, says-leb, denies-leb, says-ltb, denies-ltb, says-eqb, denies-eqb, says-not, denies-not, says-and, says-or, denies-or, denies-and, says-all, says-any, denies-any}
+use lib.Dec.{T, eqb, leb, ltb, eqb→eq, lit<}
+use Rattle.machine.specs.Sets.{has, anyBelow}
+use Rattle.machine.proofs.Says.{Denies, says-test, denies-test, denies-leb, says-ltb, denies-ltb, says-eqb, denies-eqb, denies-not, says-and, says-or, denies-or, denies-and, denies-any}
 use Rattle.machine.proofs.Refusals.{AllPass, none, and, pass-append}
 use Rattle.meaning.specs.Graph.{known, mostOperations, mostClasses, mostControls, mostArcs, operationBytes, arcBytes, byteAt, numberAt, editionOf, operationsOf, classesOf, controlsOf, arcsOf, operationsStart, controlsStart, arcsStart, fileEnd, fileLines, content, Graph, Literals, names, misnamed, lacks, operationCount, classCount, controlCount, arcCount, class, path, producer, source, target, kind, joins, strayPath, unordered, followsJoin, contentLines}
 use Rattle.meaning.specs.Answers.{graphLines}

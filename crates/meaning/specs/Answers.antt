@@ -3,7 +3,7 @@ use Prim.Native.Nat.{ℕ, suc}
 use mathlib.Core.Bool.{Bool, true, false, cond, _||_}
 use mathlib.Core.List.{List, [], _∷_, _++_}
 use lib.ListN.{length, drop, replicate}
-use lib.Dec.{eqb, leb, ltb}
+use lib.Dec.{eqb, ltb}
 use Rattle.machine.specs.Sets.{countBelow}
 use Rattle.machine.specs.Refusals.{Line, placeless, Verdict, taken, refused, judge}
 use Rattle.machine.specs.Machine.{remaining, stateCount}

@@ -1,11 +1,11 @@
 -- The graph file, its content, and refusals 1 to 11.
-use Prim.Native.Nat.{ℕ, suc, _+_, _-_, _*_, _^_, _/_}
-use mathlib.Core.Bool.{Bool, true, false, not, _&&_, _||_}
-use mathlib.Core.List.{List, [], _∷_, _++_}
+use Prim.Native.Nat.{ℕ, _+_, _-_, _*_, _^_, _/_}
+use mathlib.Core.Bool.{Bool, not, _&&_, _||_}
+use mathlib.Core.List.{List, [], _∷_}
 use lib.ListN.{length, getD}
 use lib.Seq.{slice}
 use lib.Dec.{eqb, leb, ltb}
-use Rattle.machine.specs.Sets.{has, allBelow, anyBelow}
+use Rattle.machine.specs.Sets.{has, anyBelow}
 use Rattle.machine.specs.Refusals.{Line, line, placeless}
 
 -- What an edition fixes.

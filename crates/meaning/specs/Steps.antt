@@ -1,7 +1,7 @@
 -- States and legal steps: the six constraints, and the machine that they make.
 use Prim.Native.Nat.{ℕ, _^_}
 use mathlib.Core.Bool.{Bool, cond, not, _&&_, _||_}
-use lib.Dec.{eqb, leb, ltb}
+use lib.Dec.{eqb, ltb}
 use Rattle.machine.specs.Sets.{has, allBelow, anyBelow, countBelow, maskBelow}
 use Rattle.machine.specs.Machine.{Machine}
 use Rattle.meaning.specs.Graph.{Graph, Literals, operationCount, classCount, controlCount, arcCount, limit, class, path, producer, source, target, kind, joins}

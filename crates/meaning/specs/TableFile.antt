@@ -1,6 +1,6 @@
 -- The table file: its layout, refusal 15, the table that it holds, and the file of the schedule.
 use Prim.Native.Nat.{ℕ, zero, suc, _+_, _-_, _*_, _/_, _%_}
-use mathlib.Core.Bool.{Bool, not, _&&_, _||_}
+use mathlib.Core.Bool.{not, _&&_, _||_}
 use mathlib.Core.List.{List, [], _∷_, _++_}
 use lib.ListN.{length}
 use lib.Dec.{eqb, ltb}
@@ -8,7 +8,7 @@ use Rattle.machine.specs.Refusals.{Line, placeless}
 use Rattle.machine.specs.Machine.{remaining}
 use Rattle.machine.specs.Tables.{Row, Table, scheduleRows}
 use Rattle.meaning.specs.Graph.{Graph, byteAt, numberAt}
-use Rattle.meaning.specs.Steps.{State, machineOf}
+use Rattle.meaning.specs.Steps.{machineOf}
 
 -- What an edition fixes.
 module _ (edition : ℕ) where
