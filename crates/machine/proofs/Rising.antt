@@ -10,11 +10,19 @@ use lib.ListN.{length, getD}
 use lib.Dec.{T, eqb, ltb, eqb→eq, eqb-refl, ltb→lt, lt→ltb}
 use Rattle.machine.specs.Sets.{listBelow}
 use Rattle.machine.specs.Machine.{Machine, remaining, best, run}
-use Rattle.machine.specs.Tables.{Row, Table, rises, orderLine, scheduleRows, tableOf}
+use Rattle.machine.specs.Tables.{Row, Table, rises, orderLine, scheduleRows}
 use Rattle.machine.proofs.Truth.{and-left, both, or-left, or-right, true-of, and-not, not-not-intro}
 use Rattle.machine.proofs.Sets.{mem-list, list-mem, list-length}
 use Rattle.machine.proofs.Refusals.{Passes}
 use Rattle.machine.proofs.Lawful.{Lawful}
+
+-- what stands where a table has no row
+abbrev pub noRow : (M : Machine) → Row M
+noRow M = record { cycle = 0; state = M .start; step = 0 }
+
+-- the table of a number of cycles and a list of rows
+unfoldable pub tableOf : (M : Machine) → ℕ → List (Row M) → Table M
+tableOf M cycles l = record { cycles = cycles; rows = length l; row = λ p. getD l (p - 1) (noRow M) }
 
 module _ (M : Machine) (L : Lawful M) where
   -- every row is below every later one
@@ -53,7 +61,7 @@ module _ (M : Machine) (L : Lawful M) where
   rising-passes cycles l r p h =
       and-not (ltb 1 p) (not (rises M (table .row (p - 1)) (table .row p)))
       (λ t. not-not-intro (rises M (table .row (p - 1)) (table .row p))
-      (rising-at r (record { cycle = 0; state = M .start; step = 0 }) (p - 1 - 1) (p - 1) (omega (arith, ltb→lt 1 p t)) (omega (arith, ltb→lt 1 p t))))
+      (rising-at r (noRow M) (p - 1 - 1) (p - 1) (omega (arith, ltb→lt 1 p t)) (omega (arith, ltb→lt 1 p t))))
     where
       table : Table M
       table = tableOf M cycles l

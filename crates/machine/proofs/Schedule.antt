@@ -10,15 +10,19 @@ use lib.ListN.{length, getD}
 use lib.Dec.{T, eqb, eqb-refl}
 use Rattle.machine.specs.Sets.{allBelow}
 use Rattle.machine.specs.Machine.{Machine, finish, remaining, best, run}
-use Rattle.machine.specs.Tables.{Row, Table, prescribed, orderLine, Sound, scheduleRows, tableOf, schedule}
+use Rattle.machine.specs.Tables.{Row, Table, prescribed, orderLine, Sound, scheduleRows}
 use Rattle.machine.proofs.Truth.{and-right, both, or-left, or-right, decided, contrary, refuted, false-of, of-false}
 use Rattle.machine.proofs.Sets.{le-or-lt, all-at, all-failed}
 use Rattle.machine.proofs.Refusals.{Passes}
 use Rattle.machine.proofs.Lawful.{Lawful}
 use Rattle.machine.proofs.Finish.{finish-complete, finish-later, remaining-finish, remaining-least, remaining-of-finish, best-legal, best-finishes}
 use Rattle.machine.proofs.Runs.{run-stopped, run-clock, run-ended-after, run-word, run-word-below, LegalRun, runs-finish}
-use Rattle.machine.proofs.Lookup.{Stands, found-row, prescribed-found}
-use Rattle.machine.proofs.Rising.{mem-at, at-mem, rising-passes, schedule-rising, scheduled, scheduledRow, shows, row-of, of-row}
+use Rattle.machine.proofs.Lookup.{RowAt, row-at-has, prescribed-at}
+use Rattle.machine.proofs.Rising.{noRow, tableOf, mem-at, at-mem, rising-passes, schedule-rising, scheduled, scheduledRow, shows, row-of, of-row}
+
+-- the schedule's table
+unfoldable pub schedule : (M : Machine) → Table M
+schedule M = tableOf M (remaining M (M .start)) (scheduleRows M)
 
 module _ (M : Machine) (L : Lawful M) where
   -- every sound table's cycles are at least the start's remaining number, which is there
@@ -96,22 +100,20 @@ module _ (M : Machine) (L : Lawful M) (found : remaining M (M .start) ≤ M .hor
 
   -- an unfinished state that the schedule meets has a row
   row-stands : (t w : ℕ) → w < M .words → T (not (M .complete (scheduled M L t w)))
-      → (p : ℕ) × Stands M L (schedule M) (suc t) (scheduled M L t w) p
+      → RowAt M L (schedule M) (suc t) (scheduled M L t w)
   unfolding scheduledRow scheduled schedule tableOf
   row-stands t w h c =
       let v = M .word (scheduled M L t w) in
-      let q = at-mem M L (scheduleRows M) (record { cycle = 0; state = M .start; step = 0 }) (scheduledRow M L t v)
+      let q = at-mem M L (scheduleRows M) (noRow M) (scheduledRow M L t v)
       (of-row M L t v (under-way t w h c) (run-word-below M L (λ u r. best M r) t w) (shown t w c)) in
-      let here = back (q .0) in (
-        suc (q .0),
-        record {
-          above = zero-lt-suc (q .0);
-          within = q .1;
-          cycle = ap (λ (i : ℕ). getD (scheduleRows M) i (record { cycle = 0; state = M .start; step = 0 }) .cycle) here ∙ ap (λ (r : Row M). r .cycle) (q .2);
-          state = ap (λ (i : ℕ). getD (scheduleRows M) i (record { cycle = 0; state = M .start; step = 0 }) .state) here
-              ∙ ap (λ (r : Row M). r .state) (q .2) ∙ run-word M L (λ u r. best M r) t w;
-        },
-      )
+      let here : getD (scheduleRows M) (suc (q .0) - 1) (noRow M) ≡ scheduledRow M L t v =
+      ap (λ (i : ℕ). getD (scheduleRows M) i (noRow M)) (back (q .0)) ∙ q .2 in
+      record {
+        place = suc (q .0);
+        within = (zero-lt-suc (q .0), q .1);
+        at-cycle = ap (λ (r : Row M). r .cycle) here;
+        at-state = ap (λ (r : Row M). r .state) here ∙ run-word M L (λ u r. best M r) t w;
+      }
     where
       back : (i : ℕ) → suc i - 1 ≡ i
       back i = omega arith
@@ -121,18 +123,16 @@ module _ (M : Machine) (L : Lawful M) (found : remaining M (M .start) ≤ M .hor
       → (t : ℕ) × (w : ℕ) × (t < remaining M (M .start)) × (w < M .words) × T (shows M L t w) × (schedule M .row p ≡ scheduledRow M L t w)
   unfolding schedule tableOf
   row-met p h k =
-      row-of M L (getD (scheduleRows M) (p - 1) (record { cycle = 0; state = M .start; step = 0 }))
-      (mem-at M L (scheduleRows M) (p - 1) (record { cycle = 0; state = M .start; step = 0 }) (omega arith))
+      row-of M L (getD (scheduleRows M) (p - 1) (noRow M)) (mem-at M L (scheduleRows M) (p - 1) (noRow M) (omega arith))
 
   -- the table prescribes the chosen step
   prescribed-best : (t w : ℕ) → w < M .words → T (not (M .complete (scheduled M L t w)))
       → prescribed M (schedule M) (suc t) (scheduled M L t w) ≡ best M (scheduled M L t w)
   unfolding scheduledRow schedule tableOf
   prescribed-best t w h c =
-      let there = row-stands t w h c in
-      let q = prescribed-found M L (schedule M) (suc t) (scheduled M L t w) (found-row M L (schedule M) (suc t) (scheduled M L t w) (there .0) (there .1)) in
-      let r = row-met (q .0) (q .1 .above) (q .1 .within) in
-      q .2 ∙ ap (λ (a : Row M). a .step) (r .5) ∙ ap (λ (a : Row M). best M (a .state)) (sym (r .5)) ∙ ap (best M) (q .1 .state)
+      let q = prescribed-at M L (schedule M) (suc t) (scheduled M L t w) (row-at-has M L (schedule M) (row-stands t w h c)) in
+      let r = row-met (q .0 .place) (q .0 .within .0) (q .0 .within .1) in
+      q .1 ∙ ap (λ (a : Row M). a .step) (r .5) ∙ ap (λ (a : Row M). best M (a .state)) (sym (r .5)) ∙ ap (best M) (q .0 .at-state)
 
   -- so its runs are the schedule's
   runs-scheduled : (t w : ℕ) → w < M .words → run M (prescribed M (schedule M)) t w ≡ scheduled M L t w
@@ -200,7 +200,7 @@ module _ (M : Machine) (L : Lawful M) (found : remaining M (M .start) ≤ M .hor
         × (schedule M .row p .state ≡ run M (prescribed M (schedule M)) t w)
     listed w h t c =
         let q = row-stands t w h (of-false (ap (M .complete) (sym (runs-scheduled t w h)) ∙ c)) in
-        (q .0, q .1 .above, q .1 .within, q .1 .cycle, q .1 .state ∙ sym (runs-scheduled t w h))
+        (q .place, q .within .0, q .within .1, q .at-cycle, q .at-state ∙ sym (runs-scheduled t w h))
 
     -- were all runs complete earlier, the start's remaining number would be less
     not-early : (t : ℕ) → t < remaining M (M .start) → T (not (allBelow (M .words) (λ w. M .complete (scheduled M L t w))))

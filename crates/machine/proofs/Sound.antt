@@ -6,17 +6,18 @@ use native.Mathlib.Omega.{arith}
 use mathlib.Core.Path.{_≡_, refl, sym, _∙_, ap, subst, subst₂}
 use mathlib.Core.Logic.{_⊎_, inl, inr, ⊎-elim}
 use mathlib.Core.Bool.{Bool, false, cond, not, _&&_, _||_}
-use mathlib.Core.List.{List, [], _∷_, _++_}
+use mathlib.Core.List.{List, [], _∷_}
 use lib.Dec.{T, eqb, ltb, eqb→eq, eqb-refl, eqb·suc-zero, ltb→lt, lt→ltb}
 use borrow.Author.Tests.{eq-eqb, ne-eqb}
-use Rattle.machine.specs.Sets.{anyBelow, firstBelow, listBelow}
+use Rattle.machine.specs.Sets.{anyBelow, listBelow}
 use Rattle.machine.specs.Refusals.{Line, line, lineAt, placeless}
 use Rattle.machine.specs.Machine.{Machine, run}
-use Rattle.machine.specs.Tables.{Row, Table, rises, standsAt, hasRow, prescribed, follows, continues, lastCycle, orderLine, soundLines, Sound}
-use Rattle.machine.proofs.Truth.{and-left, and-right, both, or-cases, or-left, or-right, not-and, and-not, not-or-left, not-or-right, neither, decided, contrary, not-not-elim, not-not-intro, true-of, false-of, of-true, of-false}
-use Rattle.machine.proofs.Sets.{below-cases, le-or-lt, trichotomy, all-at, all-of, any-at, any-of, First, first-some}
-use Rattle.machine.proofs.Refusals.{Passes, AllPass, none, and}
+use Rattle.machine.specs.Tables.{Row, Table, rises, hasRow, prescribed, follows, continues, lastCycle, orderLine, soundLines, Sound}
+use Rattle.machine.proofs.Truth.{and-left, and-right, both, or-cases, or-left, or-right, not-and, and-not, not-or-left, not-or-right, neither, decided, contrary, not-not-elim, not-not-intro, false-of, of-true, of-false}
+use Rattle.machine.proofs.Sets.{below-cases, le-or-lt, trichotomy, all-at, all-of, any-at, any-of}
+use Rattle.machine.proofs.Refusals.{Passes, AllPass, none, and, pass-append}
 use Rattle.machine.proofs.Lawful.{Lawful}
+use Rattle.machine.proofs.Lookup.{IsRow, RowAt, has-row-at, row-at-has, prescribed-at}
 use Rattle.machine.proofs.Runs.{run-clock, run-ended-after, run-unfinished-before, branch, run-legal}
 
 -- Tables of refusals that pass: their parts, and lines that look at one place.
@@ -26,29 +27,17 @@ pass-head (and p a) = p
 pass-tail : {l : Line} {ls : List Line} → AllPass (l ∷ ls) → AllPass ls
 pass-tail (and p a) = a
 
-pass-append : {ls ms : List Line} → AllPass ls → AllPass ms → AllPass (ls ++ ms)
-pass-append none b = b
-pass-append (and p a) b = and p (pass-append a b)
-
-pass-front : (ls ms : List Line) → AllPass (ls ++ ms) → AllPass ls
-pass-front [] ms a = none
-pass-front (l ∷ ls) ms a = and (pass-head a) (pass-front ls ms (pass-tail a))
-
-pass-rest : (ls ms : List Line) → AllPass (ls ++ ms) → AllPass ms
-pass-rest [] ms a = a
-pass-rest (l ∷ ls) ms a = pass-rest ls ms (pass-tail a)
-
 pass-list-at : (n : ℕ) (f : ℕ → List Line) → AllPass (listBelow n f) → (i : ℕ) → i < n → AllPass (f i)
 unfolding listBelow
 pass-list-at zero f a i h = absurd (not-suc-le-zero h)
 pass-list-at (suc n) f a i h =
-    ⊎-elim (pass-list-at n f (pass-front (listBelow n f) (f n) a) i)
-    (λ (e : i ≡ n). subst (λ (k : ℕ). AllPass (f k)) (sym e) (pass-rest (listBelow n f) (f n) a)) (below-cases h)
+    ⊎-elim (pass-list-at n f (pass-append (listBelow n f) (f n) .0 a .0) i)
+    (λ (e : i ≡ n). subst (λ (k : ℕ). AllPass (f k)) (sym e) (pass-append (listBelow n f) (f n) .0 a .1)) (below-cases h)
 
 pass-list-of : (n : ℕ) (f : ℕ → List Line) → ((i : ℕ) → i < n → AllPass (f i)) → AllPass (listBelow n f)
 unfolding listBelow
 pass-list-of zero f h = none
-pass-list-of (suc n) f h = pass-append (pass-list-of n f (λ i l. h i (omega arith))) (h n (lt-suc-self n))
+pass-list-of (suc n) f h = pass-append (listBelow n f) (f n) .1 (pass-list-of n f (λ i l. h i (omega arith)), h n (lt-suc-self n))
 
 pass-line-at : (k p : ℕ) (b : Bool) → Passes (lineAt k p b) → T (not b)
 pass-line-at k p b h = not-and (eqb p p) b (h p (lt-suc-self p)) (eqb-refl p)
@@ -87,9 +76,6 @@ module _ (M : Machine) where
   rises-trans L a b c (beside e h) (beside d k) = beside (e ∙ d) (L .before-trans (a .state) (b .state) (c .state) h k)
 
 module _ (M : Machine) (L : Lawful M) (table : Table M) where
-  abbrev IsRow : ℕ → Type 0
-  IsRow p = (zero < p) × (p ≤ table .rows)
-
   abbrev cycleOf : ℕ → ℕ
   cycleOf p = table .row p .cycle
 
@@ -99,7 +85,7 @@ module _ (M : Machine) (L : Lawful M) (table : Table M) where
   abbrev stepOf : ℕ → ℕ
   stepOf p = table .row p .step
 
-  each-row : (P : ℕ → Type 0) → ((i : ℕ) → i < table .rows → P (suc i)) → (p : ℕ) → IsRow p → P p
+  each-row : (P : ℕ → Type 0) → ((i : ℕ) → i < table .rows → P (suc i)) → (p : ℕ) → IsRow M L table p → P p
   each-row P h zero r = absurd (lt-irrefl 0 (r .0))
   each-row P h (suc i) r = h i (r .1)
 
@@ -123,11 +109,11 @@ module _ (M : Machine) (L : Lawful M) (table : Table M) where
 
   -- What refusals 17 to 20 leave, each as a plain fact.
   pub record Facts : Type 0 where
-    pub unfinished : (p : ℕ) → IsRow p → T (not (M .complete (stateOf p)))
-    pub following : (p : ℕ) → IsRow p → T (follows M table p)
-    pub lawful : (p : ℕ) → IsRow p → T (M .legal (stateOf p) (stepOf p))
+    pub unfinished : (p : ℕ) → IsRow M L table p → T (not (M .complete (stateOf p)))
+    pub following : (p : ℕ) → IsRow M L table p → T (follows M table p)
+    pub lawful : (p : ℕ) → IsRow M L table p → T (M .legal (stateOf p) (stepOf p))
     pub started : Covered 1 (M .start)
-    pub continued : (p : ℕ) → IsRow p → T (continues M table p)
+    pub continued : (p : ℕ) → IsRow M L table p → T (continues M table p)
     pub counted : table .cycles ≡ lastCycle M table
 
   -- the tests of the lines 17 and 19, the lines 17 and 18 of row suc i, and the lines 19 and 20
@@ -158,10 +144,10 @@ module _ (M : Machine) (L : Lawful M) (table : Table M) where
   }
     where
       rows : (i : ℕ) → i < table .rows → AllPass (rowLines i)
-      rows = pass-list-at (table .rows) rowLines (pass-front (listBelow (table .rows) rowLines) lastLines a)
+      rows = pass-list-at (table .rows) rowLines (pass-append (listBelow (table .rows) rowLines) lastLines .0 a .0)
 
       last : AllPass lastLines
-      last = pass-rest (listBelow (table .rows) rowLines) lastLines a
+      last = pass-append (listBelow (table .rows) rowLines) lastLines .0 a .1
 
       seventeen : (i : ℕ) → i < table .rows → T (not (misplaced (suc i)))
       seventeen i h = pass-line-at 17 (suc i) (misplaced (suc i)) (pass-head (rows i h))
@@ -171,7 +157,7 @@ module _ (M : Machine) (L : Lawful M) (table : Table M) where
 
   pub facts-lines : Facts → AllPass (soundLines M table)
   unfolding soundLines
-  facts-lines a = pass-append (pass-list-of (table .rows) rowLines rows) (and nineteen (and twenty none))
+  facts-lines a = pass-append (listBelow (table .rows) rowLines) lastLines .1 (pass-list-of (table .rows) rowLines rows, and nineteen (and twenty none))
     where
       rows : (i : ℕ) → i < table .rows → AllPass (rowLines i)
       rows i h = and (line-at-passes 17 p (misplaced p) (neither (M .complete (stateOf p)) (not (follows M table p)) (a .unfinished p r) (not-not-intro (follows M table p) (a .following p r)))) (and (line-at-passes 18 p (not (M .legal (stateOf p) (stepOf p))) (not-not-intro (M .legal (stateOf p) (stepOf p)) (a .lawful p r))) none)
@@ -179,7 +165,7 @@ module _ (M : Machine) (L : Lawful M) (table : Table M) where
           p : ℕ
           p = suc i
 
-          r : IsRow p
+          r : IsRow M L table p
           r = (omega arith, h)
 
       on : (p : ℕ) → p < suc (table .rows) → T (goesOn p)
@@ -192,49 +178,18 @@ module _ (M : Machine) (L : Lawful M) (table : Table M) where
       twenty : Passes (placeless 20 (not (eqb (table .cycles) (lastCycle M table))))
       twenty p h = not-not-intro (eqb (table .cycles) (lastCycle M table)) (subst (λ (c : ℕ). T (eqb (table .cycles) c)) (a .counted) (eqb-refl (table .cycles)))
 
-  -- a row at cycle t with state s
-  pub record RowAt (t : ℕ) (s : M .State) : Type 0 where
-    pub place : ℕ
-    pub within : IsRow place
-    pub at-cycle : cycleOf place ≡ t
-    pub at-state : stateOf place ≡ s
-
-  stands-row : (t : ℕ) (s : M .State) (i : ℕ) → i < table .rows → T (standsAt M table t s (suc i)) → RowAt t s
-  unfolding standsAt
-  stands-row t s i h b = record {
-    place = suc i;
-    within = (omega arith, h);
-    at-cycle = eqb→eq (cycleOf (suc i)) t (and-left (eqb (cycleOf (suc i)) t) (M .same (stateOf (suc i)) s) b);
-    at-state = L .same-eq (stateOf (suc i)) s (and-right (eqb (cycleOf (suc i)) t) (M .same (stateOf (suc i)) s) b);
-  }
-
-  row-stands : (p : ℕ) → T (standsAt M table (cycleOf p) (stateOf p) p)
-  unfolding standsAt
-  row-stands p = both (eqb (cycleOf p) (cycleOf p)) (M .same (stateOf p) (stateOf p)) (eqb-refl (cycleOf p)) (L .eq-same (stateOf p))
-
-  has-row-at : (t : ℕ) (s : M .State) → T (hasRow M table t s) → RowAt t s
-  unfolding hasRow
-  has-row-at t s b = let r = any-at (table .rows) (λ i. standsAt M table t s (suc i)) b in stands-row t s (r .0) (r .1) (r .2)
-
-  row-has : (p : ℕ) → IsRow p → T (hasRow M table (cycleOf p) (stateOf p))
-  unfolding hasRow
-  row-has = each-row _ (λ i h. any-of (table .rows) (λ j. standsAt M table (cycleOf (suc i)) (stateOf (suc i)) (suc j)) i h (row-stands (suc i)))
-
   -- what holds of the rows holds where there is a row
-  on-row : {t : ℕ} {s : M .State} (P : ℕ → M .State → Type 0) → ((p : ℕ) → IsRow p → P (cycleOf p) (stateOf p)) → RowAt t s → P t s
+  on-row : {t : ℕ} {s : M .State} (P : ℕ → M .State → Type 0) → ((p : ℕ) → IsRow M L table p → P (cycleOf p) (stateOf p)) → RowAt M L table t s → P t s
   on-row P h r = subst₂ P (r .at-cycle) (r .at-state) (h (r .place) (r .within))
 
-  row-at-has : {t : ℕ} {s : M .State} → RowAt t s → T (hasRow M table t s)
-  row-at-has = on-row (λ (t : ℕ) (s : M .State). T (hasRow M table t s)) row-has
-
-  covered-cases : (t : ℕ) (s : M .State) → Covered t s → T (M .complete s) ⊎ RowAt t s
+  covered-cases : (t : ℕ) (s : M .State) → Covered t s → T (M .complete s) ⊎ RowAt M L table t s
   covered-cases t s c =
-      ⊎-elim (λ (h : T (M .complete s)). inl h) (λ (h : T (hasRow M table t s)). inr (has-row-at t s h)) (or-cases (M .complete s) (hasRow M table t s) c)
+      ⊎-elim (λ (h : T (M .complete s)). inl h) (λ (h : T (hasRow M table t s)). inr (has-row-at M L table t s h)) (or-cases (M .complete s) (hasRow M table t s) c)
 
   -- how row p comes about: it is the start, or it follows another row
   data Follows (p : ℕ) : Type 0 where
     first : cycleOf p ≡ 1 → M .start ≡ stateOf p → Follows p
-    next : (q : ℕ) → IsRow q → suc (cycleOf q) ≡ cycleOf p → (w : ℕ) → w < M .words
+    next : (q : ℕ) → IsRow M L table q → suc (cycleOf q) ≡ cycleOf p → (w : ℕ) → w < M .words
         → M .next (stateOf q) (stepOf q) w ≡ stateOf p → Follows p
 
   -- the tests of refusal 17: row p is the start; row suc i leads there on the word w; it does on some word
@@ -310,7 +265,7 @@ module _ (M : Machine) (L : Lawful M) (table : Table M) where
         (λ (e : p ≡ q). subst (λ (r : ℕ). Rises M (table .row r) (table .row (suc q))) (sym e) (next-rises q (omega arith) k)) (below-cases l)
 
     -- two rows with the same cycle and state are the same row
-    pub row-unique : (p q : ℕ) → IsRow p → IsRow q → cycleOf p ≡ cycleOf q → stateOf p ≡ stateOf q → p ≡ q
+    pub row-unique : (p q : ℕ) → IsRow M L table p → IsRow M L table q → cycleOf p ≡ cycleOf q → stateOf p ≡ stateOf q → p ≡ q
     row-unique p q h k c s =
         ⊎-elim (λ (e : p ≡ q). e)
         (λ (a : (p < q) ⊎ (q < p)). absurd (⊎-elim
@@ -319,27 +274,20 @@ module _ (M : Machine) (L : Lawful M) (table : Table M) where
         (trichotomy p q)
 
     -- so the table prescribes the step of its row
-    pub prescribed-row : (p : ℕ) → IsRow p → prescribed M table (cycleOf p) (stateOf p) ≡ stepOf p
-    unfolding prescribed hasRow stands-row
-    prescribed-row p h = rw (true-of (hasRow M table (cycleOf p) (stateOf p)) (row-has p h)) (ap stepOf (row-unique (r .place) p (r .within) h (r .at-cycle) (r .at-state)))
-      where
-        test : ℕ → Bool
-        test i = standsAt M table (cycleOf p) (stateOf p) (suc i)
+    pub prescribed-row : (p : ℕ) → IsRow M L table p → prescribed M table (cycleOf p) (stateOf p) ≡ stepOf p
+    prescribed-row p h =
+        let q = prescribed-at M L table (cycleOf p) (stateOf p)
+        (row-at-has M L table (record { place = p; within = h; at-cycle = refl; at-state = refl })) in
+        q .1 ∙ ap stepOf (row-unique (q .0 .place) p (q .0 .within) h (q .0 .at-cycle) (q .0 .at-state))
 
-        found : First (table .rows) test (firstBelow (table .rows) test)
-        found = first-some (table .rows) test (row-has p h)
-
-        r : RowAt (cycleOf p) (stateOf p)
-        r = stands-row (cycleOf p) (stateOf p) (firstBelow (table .rows) test) (found .below) (found .holds)
-
-    row-next : {t : ℕ} {s : M .State} (r : RowAt t s) (w : ℕ)
+    row-next : {t : ℕ} {s : M .State} (r : RowAt M L table t s) (w : ℕ)
         → M .next (stateOf (r .place)) (stepOf (r .place)) w ≡ M .next s (prescribed M table t s) w
     row-next r w =
         subst₂ (λ (t : ℕ) (s : M .State). M .next (stateOf (r .place)) (stepOf (r .place)) w ≡ M .next s (prescribed M table t s) w)
         (r .at-cycle) (r .at-state) (ap (λ (x : ℕ). M .next (stateOf (r .place)) x w) (sym (prescribed-row (r .place) (r .within))))
 
     -- no row is later than the last
-    row-last : (p : ℕ) → IsRow p → cycleOf p ≤ lastCycle M table
+    row-last : (p : ℕ) → IsRow M L table p → cycleOf p ≤ lastCycle M table
     row-last p h = subst (λ (c : ℕ). cycleOf p ≤ c) (sym (last-row (omega arith)))
         (⊎-elim (λ (e : p ≡ table .rows). le-of-eq (ap cycleOf e))
         (λ (l : p < table .rows). rises-cycle M (table .row p) (table .row (table .rows)) (rows-rise p (table .rows) (h .0) l (le-refl (table .rows))))
@@ -347,17 +295,17 @@ module _ (M : Machine) (L : Lawful M) (table : Table M) where
 
     -- From the refusals to soundness. First what they say where there is a row.
     module _ (facts : Facts) where
-      row-unfinished : {t : ℕ} {s : M .State} → RowAt t s → T (not (M .complete s))
+      row-unfinished : {t : ℕ} {s : M .State} → RowAt M L table t s → T (not (M .complete s))
       row-unfinished = on-row (λ (t : ℕ) (s : M .State). T (not (M .complete s))) (facts .unfinished)
 
-      row-legal : {t : ℕ} {s : M .State} → RowAt t s → T (M .legal s (prescribed M table t s))
+      row-legal : {t : ℕ} {s : M .State} → RowAt M L table t s → T (M .legal s (prescribed M table t s))
       row-legal = on-row (λ (t : ℕ) (s : M .State). T (M .legal s (prescribed M table t s))) (λ p h. subst (λ (x : ℕ). T (M .legal (stateOf p) x)) (sym (prescribed-row p h)) (facts .lawful p h))
 
       -- where there is a row, every next state is complete or has a row in the next cycle
       Onward : ℕ → M .State → Type 0
       Onward t s = (w : ℕ) → w < M .words → Covered (suc t) (M .next s (prescribed M table t s) w)
 
-      row-onward : {t : ℕ} {s : M .State} → RowAt t s → Onward t s
+      row-onward : {t : ℕ} {s : M .State} → RowAt M L table t s → Onward t s
       unfolding Onward continues
       row-onward = on-row Onward (λ p h w l. subst (λ (x : ℕ). Covered (suc (cycleOf p)) (M .next (stateOf p) x w)) (sym (prescribed-row p h)) (all-at (M .words) (λ v. M .complete (M .next (stateOf p) (stepOf p) v) || hasRow M table (suc (cycleOf p)) (M .next (stateOf p) (stepOf p) v)) (facts .continued p h) w l))
 
@@ -372,7 +320,7 @@ module _ (M : Machine) (L : Lawful M) (table : Table M) where
               or-left (M .complete (runOf (suc t) w)) (hasRow M table (suc (suc t)) (runOf (suc t) w))
               (run-ended-after M L (prescribed M table) t (suc t) w (omega arith) c)
 
-          onward : RowAt (suc t) (runOf t w) → Covered (suc (suc t)) (runOf (suc t) w)
+          onward : RowAt M L table (suc t) (runOf t w) → Covered (suc (suc t)) (runOf (suc t) w)
           onward r = subst (Covered (suc (suc t))) (sym (run-clock M L (prescribed M table) t w (row-unfinished r))) (row-onward r w h)
 
       -- and every row is met by a run
@@ -385,21 +333,21 @@ module _ (M : Machine) (L : Lawful M) (table : Table M) where
       reached-first p c (first d s) = (M .word (M .start), L .word-start, sym s)
       reached-first p c (next q h d w l s) = absurd (omega (arith, cycle-positive q (follows-cases q (facts .following q h))))
 
-      reached-next : (t p : ℕ) → cycleOf p ≡ suc (suc t) → Follows p → ((q : ℕ) → IsRow q → cycleOf q ≡ suc t → Reached t (stateOf q))
+      reached-next : (t p : ℕ) → cycleOf p ≡ suc (suc t) → Follows p → ((q : ℕ) → IsRow M L table q → cycleOf q ≡ suc t → Reached t (stateOf q))
           → Reached (suc t) (stateOf p)
       reached-next t p c (first d s) ih = absurd (omega arith)
       reached-next t p c (next q h d v l s) ih =
           let e : cycleOf q ≡ suc t = omega arith in
           let m = ih q h e in
-          let r : RowAt (suc t) (runOf t (m .0)) = record { place = q; within = h; at-cycle = e; at-state = m .2 } in
+          let r : RowAt M L table (suc t) (runOf t (m .0)) = record { place = q; within = h; at-cycle = e; at-state = m .2 } in
           let b = branch M L (prescribed M table) t (m .0) (row-unfinished r) v in
           (b .0, b .1, sym s ∙ row-next r v ∙ b .2)
 
-      reached : (t p : ℕ) → IsRow p → cycleOf p ≡ suc t → Reached t (stateOf p)
+      reached : (t p : ℕ) → IsRow M L table p → cycleOf p ≡ suc t → Reached t (stateOf p)
       reached zero p h c = reached-first p c (follows-cases p (facts .following p h))
       reached (suc t) p h c = reached-next t p c (follows-cases p (facts .following p h)) (reached t)
 
-      row-met : (p : ℕ) → IsRow p → MetAt p
+      row-met : (p : ℕ) → IsRow M L table p → MetAt p
       row-met p h =
           let e : cycleOf p ≡ suc (cycleOf p - 1) = omega (arith, cycle-positive p (follows-cases p (facts .following p h))) in
           record { time = cycleOf p - 1; cycle = e; reached = reached (cycleOf p - 1) p h e }
@@ -407,13 +355,13 @@ module _ (M : Machine) (L : Lawful M) (table : Table M) where
       facts-sound : Sound M table
       facts-sound = record { legal = legal; ends = λ w h. (table .cycles, enough w h); met = met; listed = listed; enough = enough; needed = needed }
         where
-          cases : (t w : ℕ) → w < M .words → T (M .complete (runOf t w)) ⊎ RowAt (suc t) (runOf t w)
+          cases : (t w : ℕ) → w < M .words → T (M .complete (runOf t w)) ⊎ RowAt M L table (suc t) (runOf t w)
           cases t w h = covered-cases (suc t) (runOf t w) (covered t w h)
 
           legal : (w : ℕ) → w < M .words → (t : ℕ) → T (M .complete (runOf t w) || M .legal (runOf t w) (prescribed M table (suc t) (runOf t w)))
           legal w h t =
               let may = M .legal (runOf t w) (prescribed M table (suc t) (runOf t w)) in
-              ⊎-elim (or-left (M .complete (runOf t w)) may) (λ (r : RowAt (suc t) (runOf t w)). or-right (M .complete (runOf t w)) may (row-legal r)) (cases t w h)
+              ⊎-elim (or-left (M .complete (runOf t w)) may) (λ (r : RowAt M L table (suc t) (runOf t w)). or-right (M .complete (runOf t w)) may (row-legal r)) (cases t w h)
 
           met : (p : ℕ) → zero < p → p ≤ table .rows
               → (t : ℕ) × (w : ℕ) × (w < M .words) × (cycleOf p ≡ suc t) × (stateOf p ≡ runOf t w) × (M .complete (stateOf p) ≡ false)
@@ -425,12 +373,12 @@ module _ (M : Machine) (L : Lawful M) (table : Table M) where
               → (p : ℕ) × (zero < p) × (p ≤ table .rows) × (cycleOf p ≡ suc t) × (stateOf p ≡ runOf t w)
           listed w h t e =
               ⊎-elim (λ (c : T (M .complete (runOf t w))). absurd (contrary (M .complete (runOf t w)) c (of-false e)))
-              (λ (r : RowAt (suc t) (runOf t w)). (r .place, r .within .0, r .within .1, r .at-cycle, r .at-state)) (cases t w h)
+              (λ (r : RowAt M L table (suc t) (runOf t w)). (r .place, r .within .0, r .within .1, r .at-cycle, r .at-state)) (cases t w h)
 
           enough : (w : ℕ) → w < M .words → T (M .complete (runOf (table .cycles) w))
           enough w h =
               ⊎-elim (λ (c : T (M .complete (runOf (table .cycles) w))). c)
-              (λ (r : RowAt (suc (table .cycles)) (runOf (table .cycles) w)). absurd (omega (arith, row-last (r .place) (r .within), facts .counted, r .at-cycle)))
+              (λ (r : RowAt M L table (suc (table .cycles)) (runOf (table .cycles) w)). absurd (omega (arith, row-last (r .place) (r .within), facts .counted, r .at-cycle)))
               (cases (table .cycles) w h)
 
           needed : (t : ℕ) → t < table .cycles → (w : ℕ) × (w < M .words) × (M .complete (runOf t w) ≡ false)
@@ -438,17 +386,17 @@ module _ (M : Machine) (L : Lawful M) (table : Table M) where
             where
               from-last : zero < table .rows → (w : ℕ) × (w < M .words) × (M .complete (runOf t w) ≡ false)
               from-last k =
-                  let last : IsRow (table .rows) = (k, le-refl (table .rows)) in
+                  let last : IsRow M L table (table .rows) = (k, le-refl (table .rows)) in
                   let m = row-met (table .rows) last in
                   let w = m .reached .0 in
                   (w, m .reached .1, false-of (M .complete (runOf t w)) (run-unfinished-before M L (prescribed M table) t (m .time) w (omega (arith, last-row k, facts .counted, m .cycle)) (subst (λ (s : M .State). T (not (M .complete s))) (m .reached .2) (facts .unfinished (table .rows) last))))
 
     -- From soundness to the refusals.
     module _ (sound : Sound M table) where
-      sound-met : (p : ℕ) → IsRow p → MetAt p
+      sound-met : (p : ℕ) → IsRow M L table p → MetAt p
       sound-met p h = let m = sound .met p (h .0) (h .1) in record { time = m .0; cycle = m .3; reached = (m .1, m .2, m .4) }
 
-      sound-row : (t w : ℕ) → w < M .words → T (not (M .complete (runOf t w))) → RowAt (suc t) (runOf t w)
+      sound-row : (t w : ℕ) → w < M .words → T (not (M .complete (runOf t w))) → RowAt M L table (suc t) (runOf t w)
       sound-row t w h n =
           let r = sound .listed w h t (false-of (M .complete (runOf t w)) n) in
           record { place = r .0; within = (r .1, r .2); at-cycle = r .3; at-state = r .4 }
@@ -456,13 +404,13 @@ module _ (M : Machine) (L : Lawful M) (table : Table M) where
       sound-covered : (t w : ℕ) → w < M .words → Covered (suc t) (runOf t w)
       sound-covered t w h =
           ⊎-elim (or-left (M .complete (runOf t w)) (hasRow M table (suc t) (runOf t w)))
-          (λ (n : T (not (M .complete (runOf t w)))). or-right (M .complete (runOf t w)) (hasRow M table (suc t) (runOf t w)) (row-at-has (sound-row t w h n)))
+          (λ (n : T (not (M .complete (runOf t w)))). or-right (M .complete (runOf t w)) (hasRow M table (suc t) (runOf t w)) (row-at-has M L table (sound-row t w h n)))
           (decided (M .complete (runOf t w)))
 
-      sound-unfinished : (p : ℕ) → IsRow p → T (not (M .complete (stateOf p)))
+      sound-unfinished : (p : ℕ) → IsRow M L table p → T (not (M .complete (stateOf p)))
       sound-unfinished p h = of-false (sound .met p (h .0) (h .1) .5)
 
-      met-unfinished : (p : ℕ) → IsRow p → (m : MetAt p) → T (not (M .complete (runOf (m .time) (m .reached .0))))
+      met-unfinished : (p : ℕ) → IsRow M L table p → (m : MetAt p) → T (not (M .complete (runOf (m .time) (m .reached .0))))
       met-unfinished p h m = subst (λ (s : M .State). T (not (M .complete s))) (m .reached .2) (sound-unfinished p h)
 
       sound-follows : (t w p : ℕ) → w < M .words → cycleOf p ≡ suc t → stateOf p ≡ runOf t w → T (not (M .complete (runOf t w))) → Follows p
@@ -473,21 +421,21 @@ module _ (M : Machine) (L : Lawful M) (table : Table M) where
           let r = sound-row t w h n′ in
           next (r .place) (r .within) (omega (arith, r .at-cycle)) w h (row-next r w ∙ sym (run-clock M L (prescribed M table) t w n′) ∙ sym s)
 
-      sound-legal : (p : ℕ) → IsRow p → T (M .legal (stateOf p) (stepOf p))
+      sound-legal : (p : ℕ) → IsRow M L table p → T (M .legal (stateOf p) (stepOf p))
       sound-legal p h =
           let m = sound-met p h in
           subst (λ (x : ℕ). T (M .legal (stateOf p) x)) (prescribed-row p h)
           (subst₂ (λ (t : ℕ) (s : M .State). T (M .legal s (prescribed M table t s))) (sym (m .cycle)) (sym (m .reached .2))
           (run-legal M L (prescribed M table) (m .reached .0) (sound .legal (m .reached .0) (m .reached .1)) (m .time) (met-unfinished p h m)))
 
-      sound-continues : (p : ℕ) → IsRow p → T (continues M table p)
+      sound-continues : (p : ℕ) → IsRow M L table p → T (continues M table p)
       unfolding continues
       sound-continues p h = all-of (M .words) (λ v. M .complete (M .next (stateOf p) (stepOf p) v) || hasRow M table (suc (cycleOf p)) (M .next (stateOf p) (stepOf p) v)) (λ v l. onward v)
         where
           m : MetAt p
           m = sound-met p h
 
-          r : RowAt (suc (m .time)) (runOf (m .time) (m .reached .0))
+          r : RowAt M L table (suc (m .time)) (runOf (m .time) (m .reached .0))
           r = record { place = p; within = h; at-cycle = m .cycle; at-state = m .reached .2 }
 
           onward : (v : ℕ) → Covered (suc (cycleOf p)) (M .next (stateOf p) (stepOf p) v)
@@ -512,7 +460,7 @@ module _ (M : Machine) (L : Lawful M) (table : Table M) where
           from-last : zero < table .rows → lastCycle M table ≤ table .cycles
           from-last k = ⊎-elim (λ (h : table .cycles ≤ m .time). absurd (contrary (M .complete (runOf (m .time) w)) (run-ended-after M L (prescribed M table) (table .cycles) (m .time) w h (sound .enough w (m .reached .1))) (met-unfinished (table .rows) last m))) (λ (h : m .time < table .cycles). omega (arith, last-row k, m .cycle)) (le-or-lt (table .cycles) (m .time))
             where
-              last : IsRow (table .rows)
+              last : IsRow M L table (table .rows)
               last = (k, le-refl (table .rows))
 
               m : MetAt (table .rows)

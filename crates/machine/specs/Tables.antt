@@ -3,7 +3,6 @@ use Prim.Native.Nat.{ℕ, zero, suc, _<_, _≤_, _-_}
 use mathlib.Core.Path.{_≡_}
 use mathlib.Core.Bool.{Bool, false, cond, not, _&&_, _||_}
 use mathlib.Core.List.{List, [], _∷_, _++_}
-use lib.ListN.{length, getD}
 use lib.Dec.{T, eqb, ltb}
 use Rattle.machine.specs.Sets.{allBelow, anyBelow, firstBelow, listBelow}
 use Rattle.machine.specs.Refusals.{Line, line, lineAt, placeless}
@@ -93,11 +92,3 @@ module _ (M : Machine) where
       listBelow (remaining M (M .start)) (λ t. listBelow (M .words) (λ w.
       let s = run M (λ u r. best M r) t w in
       cond (eqb (M .word s) w && not (M .complete s)) (record { cycle = suc t; state = s; step = best M s } ∷ []) []))
-
-  -- the table of a number of cycles and a list of rows
-  unfoldable pub tableOf : ℕ → List (Row M) → Table M
-  tableOf cycles l =
-      record { cycles = cycles; rows = length l; row = λ p. getD l (p - 1) (record { cycle = 0; state = M .start; step = 0 }) }
-
-  unfoldable pub schedule : Table M
-  schedule = tableOf (remaining M (M .start)) scheduleRows

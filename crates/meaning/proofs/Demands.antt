@@ -13,12 +13,12 @@ use lib.Arith.{le→nltb}
 use lib.Pow.{pow-pos, pow-mono}
 use Rattle.machine.specs.Refusals.{placeless, taken, refused, judge}
 use Rattle.machine.specs.Machine.{Machine, remaining, run, stateCount}
-use Rattle.machine.specs.Tables.{Sound, orderLine, soundLines, prescribed, scheduleRows, tableOf, schedule}
+use Rattle.machine.specs.Tables.{Sound, orderLine, soundLines, prescribed, scheduleRows}
 use Rattle.machine.proofs.Sets.{le-or-lt}
 use Rattle.machine.proofs.Refusals.{Passes, AllPass, and, judge-taken, judge-after, placeless-fault, placeless-passes, pass-append}
 use Rattle.machine.proofs.Lawful.{Lawful}
-use Rattle.machine.proofs.Rising.{at-mem, schedule-length}
-use Rattle.machine.proofs.Schedule.{schedule-ordered, schedule-sound, sound-least}
+use Rattle.machine.proofs.Rising.{tableOf, noRow, at-mem, schedule-length}
+use Rattle.machine.proofs.Schedule.{schedule, schedule-ordered, schedule-sound, sound-least}
 use Rattle.machine.proofs.Sound.{accepted-sound, sound-accepted, lines-facts}
 use Rattle.meaning.specs.Graph.{Graph, content, operationCount}
 use Rattle.meaning.specs.Steps.{State, machineOf}
@@ -131,8 +131,8 @@ module _ (file : List ℕ) (ok : graphVerdict file ≡ taken) where
     rows-fit : AllFit (content file) (scheduleRows machineIn)
     unfolding schedule tableOf
     rows-fit r m =
-        let q = at-mem machineIn lawful-in (scheduleRows machineIn) (record { cycle = 0; state = machineIn .start; step = 0 }) r m in
-        subst (Fits (content file)) (ap (λ (i : ℕ). getD (scheduleRows machineIn) i (record { cycle = 0; state = machineIn .start; step = 0 })) (back (q .0)) ∙ q .2)
+        let q = at-mem machineIn lawful-in (scheduleRows machineIn) (noRow machineIn) r m in
+        subst (Fits (content file)) (ap (λ (i : ℕ). getD (scheduleRows machineIn) i (noRow machineIn)) (back (q .0)) ∙ q .2)
         (row-fits (suc (q .0)) (zero-lt-suc (q .0)) (q .1))
       where
         back : (i : ℕ) → suc i - 1 ≡ i

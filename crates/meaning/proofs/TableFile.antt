@@ -9,10 +9,11 @@ use lib.ListN.{length, getD, length-append}
 use lib.Dec.{eqb, ltb, eqb→eq}
 use borrow.Author.Tests.{le-ltb, eq-eqb}
 use Rattle.machine.specs.Machine.{Machine}
-use Rattle.machine.specs.Tables.{Row, tableOf, orderLine, soundLines}
+use Rattle.machine.specs.Tables.{Row, orderLine, soundLines}
 use Rattle.machine.proofs.Truth.{not-or-right, not-not-elim}
 use Rattle.machine.proofs.Refusals.{Passes, AllPass, and}
 use Rattle.machine.proofs.Views.{order-view, lines-view}
+use Rattle.machine.proofs.Rising.{tableOf}
 use Rattle.meaning.specs.Graph.{Graph, byteAt, littleEndian, numberAt}
 use Rattle.meaning.specs.Steps.{machineOf}
 use Rattle.meaning.specs.TableFile.{maskBytes, rowBytes, mostRows, rowStart, cyclesOf, rowsOf, layoutLine, tableIn, bytesOf, rowFile, rowFiles, tableFile}
