@@ -12,19 +12,16 @@ use Rattle.meaning.specs.Graph.{Graph, operationsOf, classesOf, controls
 use Rattle.meaning.specs.Steps.{machineOf}
 use Rattle.meaning.specs.TableFile.{cyclesOf, rowsOf, rowStart, layoutLine, tableIn, scheduleFile}
 
--- The refusal number with its place and zero counts, or number 0 with the counts.
+-- What scheduler and checker answer: the verdict with its counts, which are zero after a refusal.
 pub record Answer : Type 0 where
-  pub number : ℕ
-  pub place : ℕ
+  pub verdict : Verdict
   pub cycles : ℕ
   pub rows : ℕ
   pub states : ℕ
 
--- the answer of a verdict, where success carries these counts
 unfoldable pub answer : Verdict → ℕ → ℕ → ℕ → Answer
-answer taken cycles rows states =
-    record { number = 0; place = 0; cycles = cycles; rows = rows; states = states }
-answer (refused k p) cycles rows states = record { number = k; place = p; cycles = 0; rows = 0; states = 0 }
+answer taken cycles rows states = record { verdict = taken; cycles = cycles; rows = rows; states = states }
+answer (refused k p) cycles rows states = record { verdict = refused k p; cycles = 0; rows = 0; states = 0 }
 
 unfoldable pub isTaken : Verdict → Bool
 isTaken taken = true
@@ -37,31 +34,22 @@ graphLines file = fileLines file ++ contentLines (content file)
 unfoldable pub graphVerdict : List ℕ → Verdict
 graphVerdict file = judge (graphLines file)
 
--- What the reader answers: the refusal number with its place and zero counts, or number 0 with the graph's counts.
+-- What the reader answers: the verdict with the graph's counts, which are zero after a refusal.
 pub record Reading : Type 0 where
-  pub number : ℕ
-  pub place : ℕ
+  pub verdict : Verdict
   pub operations : ℕ
   pub classes : ℕ
   pub controls : ℕ
   pub arcs : ℕ
 
-unfoldable pub readingOf : Verdict → List ℕ → Reading
-readingOf taken file =
-    record {
-      number = 0;
-      place = 0;
-      operations = operationsOf file;
-      classes = classesOf file;
-      controls = controlsOf file;
-      arcs = arcsOf file;
-    }
-readingOf (refused k p) file =
-    record { number = k; place = p; operations = 0; classes = 0; controls = 0; arcs = 0 }
+unfoldable pub reading : Verdict → ℕ → ℕ → ℕ → ℕ → Reading
+reading taken n k c a = record { verdict = taken; operations = n; classes = k; controls = c; arcs = a }
+reading (refused number p) n k c a =
+    record { verdict = refused number p; operations = 0; classes = 0; controls = 0; arcs = 0 }
 
 -- The reader, for a graph file.
 unfoldable pub reader : List ℕ → Reading
-reader file = readingOf (graphVerdict file) file
+reader file = reading (graphVerdict file) (operationsOf file) (classesOf file) (controlsOf file) (arcsOf file)
 
 -- Refusals 12 to 14, for the slots lent and the length of the lent table buffer.
 unfoldable pub scheduleLines : Graph → ℕ → ℕ → List Line

@@ -2,6 +2,7 @@
 use Prim.Native.Nat.{ℕ}
 use mathlib.Core.List.{List, [], _∷_, _++_}
 use lib.ListN.{replicate, take}
+use Rattle.machine.specs.Refusals.{taken, refused}
 use Rattle.meaning.specs.Answers.{Answer, scheduler, tableAfter, checker}
 
 -- the scheduler on a graph with so many slots, its answer and the table; or the checker on a graph and a table
@@ -32,10 +33,10 @@ expected (schedules file slots answer table) = record { answer = answer; table =
 expected (checks file table answer) = record { answer = answer; table = [] }
 
 abbrev refusal : ℕ → ℕ → Answer
-refusal k p = record { number = k; place = p; cycles = 0; rows = 0; states = 0 }
+refusal k p = record { verdict = refused k p; cycles = 0; rows = 0; states = 0 }
 
 abbrev success : ℕ → ℕ → ℕ → Answer
-success cycles rows states = record { number = 0; place = 0; cycles = cycles; rows = rows; states = states }
+success cycles rows states = record { verdict = taken; cycles = cycles; rows = rows; states = states }
 
 -- case A with the limit of class 1 given
 abbrev graphA : ℕ → List ℕ
