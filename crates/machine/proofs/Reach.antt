@@ -5,11 +5,11 @@ use native.Mathlib.Omega.{arith}
 use mathlib.Core.Path.{_≡_, refl, sym, _∙_, ap, subst}
 use mathlib.Core.Logic.{_⊎_, inl, inr, ⊎-elim, ⊎-map}
 use mathlib.Core.Bool.{Bool, true, false, cond, not}
-use mathlib.Core.List.{List, [], _∷_, List·Memᴰ, List·Memᴰ·head, List·Memᴰ·tail, List·Memᴰ·cases-cons, List·Memᴰ·eq-of-singleton, List·Memᴰ·not-nil, Memᴰ·cast}
+use mathlib.Core.List.{List, [], _∷_, List·Memᴰ, List·Memᴰ·head, List·Memᴰ·tail, List·Memᴰ·cases-cons, List·Memᴰ·eq-of-singleton, List·Memᴰ·not-nil, Memᴰ·cast, flatMap, Memᴰ·append-left, Memᴰ·append-right, List·Memᴰ·append-cases}
 use lib.ListN.{length}
 use lib.Dec.{T}
 use Rattle.machine.specs.Sets.{listBelow}
-use Rattle.machine.specs.Machine.{Machine, Reachable, holds, added, successors, grown, reached, stateCount}
+use Rattle.machine.specs.Machine.{Machine, Reachable, holds, added, successors, reached, stateCount}
 use Rattle.machine.proofs.Truth.{or-cases, or-left, or-right, contrary, true-of, of-true}
 use Rattle.machine.proofs.Sets.{mem-list, list-mem}
 use Rattle.machine.proofs.Lawful.{Lawful}
@@ -129,42 +129,34 @@ module _ (M : Machine) (L : Lawful M) where
       unfinished true c n = absurd (List·Memᴰ·not-nil n)
       unfinished false c n = let k = mem-list (M .steps) steps r n in legal-step c (k .0) (M .legal s (k .0)) refl (k .2)
 
-  -- `grown` holds the states of the second list and the successors of the first list's, and repeats none
-  grown-kept : {s : M .State} (ss l : List (M .State)) → List·Memᴰ s l → List·Memᴰ s (grown M ss l)
-  unfolding grown
-  grown-kept [] l m = m
-  grown-kept (r ∷ rs) l m = added-kept (successors M r) (grown M rs l) (grown-kept rs l m)
+  -- the successors of a list's states
+  flat-new : {r s : M .State} (ss : List (M .State)) → List·Memᴰ r ss → List·Memᴰ s (successors M r) → List·Memᴰ s (flatMap (successors M) ss)
+  unfolding flatMap
+  flat-new [] m n = absurd (List·Memᴰ·not-nil m)
+  flat-new {r} {s} (q ∷ qs) m n =
+      ⊎-elim (λ (e : r ≡ q). Memᴰ·append-left (flatMap (successors M) qs) (subst (λ (p : M .State). List·Memᴰ s (successors M p)) e n))
+      (λ (k : List·Memᴰ r qs). Memᴰ·append-right (successors M q) (flat-new qs k n)) (List·Memᴰ·cases-cons m)
 
-  grown-new : {r s : M .State} (ss l : List (M .State)) → List·Memᴰ r ss → List·Memᴰ s (successors M r) → List·Memᴰ s (grown M ss l)
-  unfolding grown
-  grown-new [] l m n = absurd (List·Memᴰ·not-nil m)
-  grown-new {r} {s} (q ∷ qs) l m n =
-      ⊎-elim (λ (e : r ≡ q). added-new (successors M q) (grown M qs l) (subst (λ (p : M .State). List·Memᴰ s (successors M p)) e n))
-      (λ (k : List·Memᴰ r qs). added-kept (successors M q) (grown M qs l) (grown-new qs l k n)) (List·Memᴰ·cases-cons m)
-
-  grown-reachable : (ss l : List (M .State)) → ((s : M .State) → List·Memᴰ s ss → Reachable M s)
-      → ((s : M .State) → List·Memᴰ s l → Reachable M s) → (s : M .State) → List·Memᴰ s (grown M ss l) → Reachable M s
-  unfolding grown
-  grown-reachable [] l f g s m = g s m
-  grown-reachable (r ∷ rs) l f g s m =
-      ⊎-elim (successor-reachable r s (f r (List·Memᴰ·head refl))) (grown-reachable rs l (λ q n. f q (List·Memᴰ·tail n)) g s)
-      (added-cases (successors M r) (grown M rs l) m)
-
-  grown-distinct : (ss l : List (M .State)) → Distinct M l → Distinct M (grown M ss l)
-  unfolding grown
-  grown-distinct [] l d = d
-  grown-distinct (r ∷ rs) l d = added-distinct (successors M r) (grown M rs l) (grown-distinct rs l d)
+  flat-reachable : (ss : List (M .State)) → ((s : M .State) → List·Memᴰ s ss → Reachable M s)
+      → (s : M .State) → List·Memᴰ s (flatMap (successors M) ss) → Reachable M s
+  unfolding flatMap
+  flat-reachable [] f s m = absurd (List·Memᴰ·not-nil m)
+  flat-reachable (r ∷ rs) f s m =
+      ⊎-elim (successor-reachable r s (f r (List·Memᴰ·head refl))) (flat-reachable rs (λ q n. f q (List·Memᴰ·tail n)) s)
+      (List·Memᴰ·append-cases (successors M r) m)
 
   pub reached-distinct : (t : ℕ) → Distinct M (reached M t)
   unfolding reached holds
   reached-distinct zero = more tt none
-  reached-distinct (suc t) = grown-distinct (reached M t) (reached M t) (reached-distinct t)
+  reached-distinct (suc t) = added-distinct (flatMap (successors M) (reached M t)) (reached M t) (reached-distinct t)
 
   -- a state on the list of any round is reachable
   mem-reachable : (t : ℕ) (s : M .State) → List·Memᴰ s (reached M t) → Reachable M s
   unfolding reached
   mem-reachable zero s m = subst (Reachable M) (sym (List·Memᴰ·eq-of-singleton m)) Reachable.begin
-  mem-reachable (suc t) s m = grown-reachable (reached M t) (reached M t) (mem-reachable t) (mem-reachable t) s m
+  mem-reachable (suc t) s m =
+      ⊎-elim (flat-reachable (reached M t) (mem-reachable t) s) (mem-reachable t s)
+      (added-cases (flatMap (successors M) (reached M t)) (reached M t) m)
 
   pub listed-reachable : (t : ℕ) (s : M .State) → T (holds M (reached M t) s) → Reachable M s
   listed-reachable t s h = mem-reachable t s (holds-mem (reached M t) s h)
@@ -175,7 +167,7 @@ module _ (M : Machine) (L : Lawful M) where
   round (Reachable.begin) = (0, omega (arith, L .rank-start), List·Memᴰ·head refl)
   round (Reachable.step {s} q c x l w h) =
       let r = round q in
-      (suc (r .0), omega (arith, r .1, L .rank-falls s x w l), grown-new (reached M (r .0)) (reached M (r .0)) (r .2) (successor s c x l w h))
+      (suc (r .0), omega (arith, r .1, L .rank-falls s x w l), added-new (flatMap (successors M) (reached M (r .0))) (reached M (r .0)) (flat-new (reached M (r .0)) (r .2) (successor s c x l w h)))
 
   pub reachable-rank : (s : M .State) → Reachable M s → L .rank s ≤ M .horizon
   reachable-rank s q = omega (arith, round q .1)
@@ -185,7 +177,7 @@ module _ (M : Machine) (L : Lawful M) where
   reachable-listed s q =
       let r = round q in
       mem-holds
-      (later (λ t. List·Memᴰ s (reached M t)) (λ t. grown-kept (reached M t) (reached M t)) (r .0) (M .horizon) (omega (arith, r .1)) (r .2))
+      (later (λ t. List·Memᴰ s (reached M t)) (λ t. added-kept (flatMap (successors M) (reached M t)) (reached M t)) (r .0) (M .horizon) (omega (arith, r .1)) (r .2))
 
   -- distinct states that are all on another list are at most as many as that list's
   distinct-within : (l m : List (M .State)) → Distinct M l → ((s : M .State) → List·Memᴰ s l → List·Memᴰ s m) → length l ≤ length m

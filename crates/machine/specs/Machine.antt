@@ -2,7 +2,7 @@
 use Prim.Native.Nat.{ℕ, zero, suc, _<_, _-_}
 use mathlib.Core.Path.{_≡_}
 use mathlib.Core.Bool.{Bool, true, false, cond, _&&_, _||_}
-use mathlib.Core.List.{List, [], _∷_}
+use mathlib.Core.List.{List, [], _∷_, flatMap}
 use lib.ListN.{length}
 use lib.Dec.{T}
 use Rattle.machine.specs.Sets.{allBelow, anyBelow, firstBelow, listBelow}
@@ -76,15 +76,10 @@ module _ (M : Machine) where
       cond (M .complete s) []
       (listBelow (M .steps) (λ x. cond (M .legal s x) (listBelow (M .words) (λ w. M .next s x w ∷ [])) []))
 
-  -- a list of states with the next states of all of the first list's
-  unfoldable pub grown : List (M .State) → List (M .State) → List (M .State)
-  grown [] l = l
-  grown (s ∷ ss) l = added (successors s) (grown ss l)
-
   -- the states that are reached within t cycles, each once
   unfoldable pub reached : ℕ → List (M .State)
   reached zero = M .start ∷ []
-  reached (suc t) = let l = reached t in grown l l
+  reached (suc t) = let l = reached t in added (flatMap successors l) l
 
   -- the number of reachable states
   unfoldable pub stateCount : ℕ
