@@ -1,0 +1,50 @@
+/* Modeurwan: schedules for control graphs, checked. Link libmodeurwan.a.
+ *
+ * Every function takes any input: there is nothing a caller must see to first, beyond that each pointer is good for the
+ * length beside it. Files are the scope document's graph file (editions 1) and table file; numbers of two bytes are
+ * little-endian there. */
+#ifndef MODEURWAN_H
+#define MODEURWAN_H
+
+#include <stddef.h>
+#include <stdint.h>
+
+#ifdef __cplusplus
+extern "C" {
+#endif
+
+/* Sizes of edition 1. */
+#define MODEURWAN_MOST_OPERATIONS 24
+#define MODEURWAN_MOST_CLASSES 8
+#define MODEURWAN_MOST_CONTROLS 4
+#define MODEURWAN_MOST_ARCS 276
+#define MODEURWAN_LARGEST_GRAPH 1480
+#define MODEURWAN_MOST_ROWS 384
+#define MODEURWAN_TABLE_HEADER 8
+#define MODEURWAN_ROW_BYTES 8
+#define MODEURWAN_LARGEST_TABLE (MODEURWAN_TABLE_HEADER + MODEURWAN_ROW_BYTES * MODEURWAN_MOST_ROWS)
+
+/* Refusal numbers, in the order in which they are tested; 0 is success. */
+enum {
+    MODEURWAN_OK = 0,
+    MODEURWAN_GRAPH_SHORT = 1,        /* graph shorter than 16 bytes */
+    MODEURWAN_GRAPH_MARK = 2,         /* mark or edition differs */
+    MODEURWAN_GRAPH_COUNT = 3,        /* a count is above its maximum */
+    MODEURWAN_GRAPH_OFFSET = 4,       /* an offset differs */
+    MODEURWAN_GRAPH_LENGTH = 5,       /* the length differs */
+    MODEURWAN_CLASS = 6,              /* class not below the classes; place: operation */
+    MODEURWAN_PATH = 7,               /* a path mask's bits; place: operation */
+    MODEURWAN_CONTROL = 8,            /* a control's operation; place: control */
+    MODEURWAN_BRANCH = 9,             /* a path without its control's path; place: operation */
+    MODEURWAN_ARC = 10,               /* an arc's fields or order; place: arc */
+    MODEURWAN_JOIN = 11,              /* a literal of the source's path is lost on the way; place: arc */
+    MODEURWAN_SLOTS = 12,             /* more reachable states than work slots lent */
+    MODEURWAN_NO_SCHEDULE = 13,       /* no table would be accepted */
+    MODEURWAN_ROOM = 14,              /* the lent table buffer is too short */
+    MODEURWAN_TABLE_LAYOUT = 15,      /* length, mark, edition, offset or row count of the table */
+    MODEURWAN_TABLE_ORDER = 16,       /* row not above the row before; place: row, from 1 */
+    MODEURWAN_ROW_STATE = 17,         /* row's state is not met in its cycle; place: row */
+    MODEURWAN_ROW_STEP = 18,          /* row's step is not legal in its state; place: row */
+    MODEURWAN_ROW_MISSING = 19,       /* a state that is met has no row; place: 0 for the start, or the row before */
+    MODEURWAN_CYCLES = 20             /* cycles is not the last row's cycle */
+};

@@ -1,0 +1,16 @@
+//! With the feature `proved`, links the static library `libmodeurwan.a` that
+//! stands in the folder named by `MODEURWAN_LIB_DIR`.
+
+use std::env;
+
+fn main() {
+    println!("cargo:rerun-if-env-changed=MODEURWAN_LIB_DIR");
+    if env::var_os("CARGO_FEATURE_PROVED").is_none() {
+        return;
+    }
+    let folder = env::var("MODEURWAN_LIB_DIR")
+        .expect("the feature `proved` needs MODEURWAN_LIB_DIR, the folder of libmodeurwan.a");
+    println!("cargo:rustc-link-search=native={folder}");
+    println!("cargo:rustc-link-lib=static=modeurwan");
+    println!("cargo:rerun-if-changed={folder}/libmodeurwan.a");
+}

@@ -1,0 +1,47 @@
+//! An independent second implementation of the cycle schedules of document 01,
+//! made to be compared with the proved one.
+
+pub mod draft;
+#[cfg(feature = "proved")]
+pub mod ffi;
+pub mod generate;
+pub mod oracle;
+
+use oracle::{Answer, Reading};
+use std::ops::Range;
+
+/// The four public functions of one implementation, so that a test can put
+/// the same question to each.
+pub struct Implementation {
+    pub name: &'static str,
+    pub read: fn(&[u8]) -> Reading,
+    pub schedule: fn(&[u8], &mut [u64], &mut [u8]) -> Answer,
+    pub check: fn(&[u8], &[u8]) -> Answer,
+    pub rows_of: fn(&[u8], &[u8], u32) -> Range<usize>,
+}
+
+const ORACLE: Implementation = Implementation {
+    name: "oracle",
+    read: oracle::read,
+    schedule: oracle::schedule,
+    check: oracle::check,
+    rows_of: oracle::rows_of,
+};
+
+#[cfg(feature = "proved")]
+const PROVED: Implementation = Implementation {
+    name: "proved library",
+    read: ffi::read,
+    schedule: ffi::schedule,
+    check: ffi::check,
+    rows_of: ffi::rows_of,
+};
+
+/// Every implementation that this build can run.
+pub fn implementations() -> Vec<Implementation> {
+    vec![
+        ORACLE,
+        #[cfg(feature = "proved")]
+        PROVED,
+    ]
+}
