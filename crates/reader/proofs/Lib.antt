@@ -1,0 +1,5 @@
+pub mod ByteLaws
+pub mod Chain
+pub mod SetLaws
+pub mod Parts
+pub mod Unique

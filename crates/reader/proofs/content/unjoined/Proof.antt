@@ -1,0 +1,27 @@
+-- `reader::content::unjoined` meets its contract. Assumes nothing.
+use borrow.Author.Needs.{needs}
+use Rattle.meaning.specs.Graph.{contentLines, path, operationBytes, controlCount, source, target, joins, arcBytes}
+use Rattle.reader.specs.Reading.{graphOf, lineOf}
+use Rattle.reader.proofs.content.unjoined.Statement.{statement}
+use Rattle.reader.proofs.content.unjoined.Tie as tie
+
+returns : tie.Need-returns
+unfolding contentLines path operationBytes controlCount source target joins arcBytes graphOf lineOf
+returns c = cc
+
+pub unjoined-spec : {M : Type 1} → statement M
+unjoined-spec =
+    tie.close
+    (tie.spec
+    (λ c. search needs)
+    (λ c κs. search needs)
+    (λ c. search needs)
+    (λ c. search needs)
+    (λ c. search needs)
+    (λ c κs. search needs)
+    (λ c. search needs)
+    (λ c κs. search needs)
+    (λ c κs. search needs)
+    (λ c κs. search needs)
+    (λ c κs. search needs)
+    returns)

@@ -1,0 +1,42 @@
+-- `reader::content_fault` meets its contract. Assumes nothing.
+use mathlib.Core.Path.{_∙_, ap}
+use denote.Ref.{now}
+use borrow.Author.Needs.{needs}
+use Rattle.machine.specs.Refusals.{judge}
+use Rattle.meaning.specs.Graph.{Graph, contentLines}
+use Rattle.reader.proofs.Parts.{cut}
+use Rattle.reader.proofs.content_fault.Statement.{statement}
+use Rattle.reader.proofs.content_fault.Tie as tie
+
+returns : tie.Need-returns
+returns c =
+    let part4 = c .before in
+    let ends = part4 .before .before .before .before in
+    let mids = ends .before in
+    let begins = mids .before in
+    let start = begins .before .before in
+    c .judge .ensures
+    ∙ ap (λ (g : Graph). judge (contentLines g))
+    (cut (now (start .args .file)) (start .pre) _ _ _ (begins .operations-start .ensures) (mids .controls-start .ensures) (ends .arcs-start .ensures))
+
+pub content-fault-spec : {M : Type 1} → statement M
+content-fault-spec =
+    tie.close
+    (tie.spec
+    (λ c κs. search needs)
+    (λ c κs. search needs)
+    (λ c κs. search needs)
+    (λ c. search needs)
+    (λ c. search needs)
+    (λ c. search needs)
+    (λ c. search needs)
+    (λ c. search needs)
+    (λ c. search needs)
+    (λ c. search needs)
+    (λ c. search needs)
+    (λ c. search needs)
+    (λ c. search needs)
+    (λ c. search needs)
+    (λ c. search needs)
+    (λ c κs. search needs)
+    returns)

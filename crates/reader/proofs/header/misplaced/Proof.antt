@@ -1,0 +1,27 @@
+-- `reader::header::misplaced` meets its contract. Assumes nothing.
+use borrow.Author.Needs.{needs}
+use Rattle.meaning.specs.Graph.{fileLines}
+use Rattle.reader.specs.Reading.{lineOf}
+use Rattle.reader.proofs.header.misplaced.Statement.{statement}
+use Rattle.reader.proofs.header.misplaced.Tie as tie
+
+returns : tie.Need-returns
+unfolding fileLines lineOf
+returns c = cc
+
+pub misplaced-spec : {M : Type 1} → statement M
+misplaced-spec =
+    tie.close
+    (tie.spec
+    (λ c κs. search needs)
+    (λ c. search needs)
+    (λ c κs. search needs)
+    (λ c. search needs)
+    (λ c κs. search needs)
+    (λ c κs. search needs)
+    (λ c. search needs)
+    (λ c κs. search needs)
+    (λ c κs. search needs)
+    (λ c. search needs)
+    (λ c κs. search needs)
+    returns)

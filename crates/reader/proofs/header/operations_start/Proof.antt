@@ -1,0 +1,12 @@
+-- `reader::header::operations_start` meets its contract. Assumes nothing.
+use borrow.Author.Needs.{needs}
+use Rattle.meaning.specs.Graph.{operationsStart, classesOf}
+use Rattle.reader.proofs.header.operations_start.Statement.{statement}
+use Rattle.reader.proofs.header.operations_start.Tie as tie
+
+returns : tie.Need-returns
+unfolding operationsStart classesOf
+returns c = cc
+
+pub operations-start-spec : {M : Type 1} → statement M
+operations-start-spec = tie.close (tie.spec (λ c κs. search needs) (λ c. search needs) (λ c. search needs) returns)

@@ -1,0 +1,14 @@
+-- `reader::header::overfull` meets its contract. Assumes nothing.
+use borrow.Author.Needs.{needs}
+use Rattle.meaning.specs.Graph.{fileLines, mostOperations, mostClasses, mostControls, mostArcs, operationsOf, classesOf, controlsOf, arcsOf}
+use Rattle.reader.specs.Reading.{lineOf}
+use Rattle.reader.proofs.header.overfull.Statement.{statement}
+use Rattle.reader.proofs.header.overfull.Tie as tie
+
+returns : tie.Need-returns
+unfolding fileLines mostOperations mostClasses mostControls mostArcs operationsOf classesOf controlsOf arcsOf lineOf
+returns c = cc
+
+pub overfull-spec : {M : Type 1} → statement M
+overfull-spec =
+    tie.close (tie.spec (λ c κs. search needs) (λ c κs. search needs) (λ c κs. search needs) (λ c κs. search needs) returns)

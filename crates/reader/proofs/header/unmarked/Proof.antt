@@ -1,0 +1,13 @@
+-- `reader::header::unmarked` meets its contract. Assumes nothing.
+use borrow.Author.Needs.{needs}
+use Rattle.meaning.specs.Graph.{fileLines, editionOf, known}
+use Rattle.reader.specs.Reading.{lineOf}
+use Rattle.reader.proofs.header.unmarked.Statement.{statement}
+use Rattle.reader.proofs.header.unmarked.Tie as tie
+
+returns : tie.Need-returns
+unfolding fileLines editionOf known lineOf
+returns c = cc
+
+pub unmarked-spec : {M : Type 1} → statement M
+unmarked-spec = tie.close (tie.spec (λ c κs. search needs) (λ c κs. search needs) (λ c κs. search needs) returns)

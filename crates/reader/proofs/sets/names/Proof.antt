@@ -1,0 +1,13 @@
+-- `reader::sets::names` meets its contract. Assumes nothing.
+use borrow.Author.Needs.{needs}
+use Rattle.meaning.specs.Graph.{names}
+use Rattle.reader.specs.Reading.{literalsOf}
+use Rattle.reader.proofs.sets.names.Statement.{statement}
+use Rattle.reader.proofs.sets.names.Tie as tie
+
+returns : tie.Need-returns
+unfolding names literalsOf
+returns c = cc
+
+pub names-spec : {M : Type 1} → statement M
+names-spec = tie.close (tie.spec (λ c κs. search needs) (λ c κs. search needs) returns)

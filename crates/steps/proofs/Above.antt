@@ -1,0 +1,268 @@
+-- The least number above x at which a test holds, by raising x at one bit. Assumes nothing.
+use Prim.Native.Nat.{ℕ, zero, suc, _+_, _-_, _*_, _^_, _/_, _%_, _≤_, _<_}
+use native.Mathlib.Nat.{div-one, div-eq-of-lt, mod-lt, add-mul, one-mul, le-refl, le-of-lt, lt-trans, lt-suc-self, zero-lt-suc, lt-of-le-of-lt, lt-of-lt-of-le}
+use native.Mathlib.Numerals.{add-one}
+use native.Mathlib.Omega.{arith}
+use mathlib.Core.Path.{_≡_, refl, sym, _∙_, ap, subst}
+use mathlib.Core.Logic.{_⊎_, inl, inr, ⊎-elim}
+use mathlib.Core.Bool.{Bool, true, false, cond, not, _&&_, and-false}
+use lib.Arith.{lt-of-le-ne}
+use lib.Bits.{bitAnd, and-le-l}
+use lib.Count.{trailingZeros}
+use lib.Dec.{T, eqb, ltb, eqb→eq, ltb→lt, lt→ltb}
+use lib.Pow.{pow-pos, pow-lt, split, high, shr-shr, shr-mono}
+use borrow.Author.Tests.{eq-eqb, lt-ltb, le-ltb}
+use Rattle.machine.specs.Sets.{has, anyBelow, firstBelow}
+use Rattle.machine.proofs.Truth.{and-left, and-right, both, not-and, and-not, not-not-elim, decided, contrary, refuted, of-true, of-false}
+use Rattle.machine.proofs.Sets.{First, le-or-lt, trichotomy, none-any, any-failed, first-none, first-some, first-unique, has-zero, member-below}
+use Rattle.masks.proofs.Bits.{has-and, has-opposite, has-power, one-bit, lowest}
+use Rattle.steps.specs.Masks.{raised, nextAbove}
+
+halved : (x n : ℕ) → x / 2 ^ suc n ≡ x / 2 ^ n / 2
+halved x n = sym (shr-shr x n 1 ∙ ap (λ (k : ℕ). x / 2 ^ k) (add-one n))
+
+-- the digit of a bit that x has not
+even : (x j : ℕ) → T (not (has x j)) → x / 2 ^ j % 2 ≡ 0
+unfolding has
+even x j t = digit (x / 2 ^ j % 2) (mod-lt (x / 2 ^ j) (zero-lt-suc 1)) t
+  where
+    digit : (d : ℕ) → d < 2 → T (not (eqb d 1)) → d ≡ 0
+    digit zero h s = refl
+    digit (suc zero) h s = absurd s
+    digit (suc (suc d)) h s = absurd (omega arith)
+
+-- The highest bit at which x is below y: x has it not, y has it, and above it they agree.
+record Parted (n x y : ℕ) : Type 0 where
+  bit : ℕ
+  below : bit < n
+  even : x / 2 ^ bit % 2 ≡ 0
+  next : y / 2 ^ bit ≡ x / 2 ^ bit / 2 * 2 + 1
+
+parted : (n x y : ℕ) → x / 2 ^ n ≡ y / 2 ^ n → x < y → Parted n x y
+parted zero x y e h = absurd (omega (arith, div-one x, div-one y))
+parted (suc n) x y e h =
+    ⊎-elim
+    (λ (q : x / 2 ^ n ≡ y / 2 ^ n). let r = parted n x y q h in
+    record { bit = r .bit; below = omega (arith, r .below); even = r .even; next = r .next })
+    (λ (q : (x / 2 ^ n < y / 2 ^ n) ⊎ (y / 2 ^ n < x / 2 ^ n)). here (⊎-elim (λ (l : x / 2 ^ n < y / 2 ^ n). l)
+    (λ (l : y / 2 ^ n < x / 2 ^ n). absurd (omega (arith, shr-mono n (le-of-lt h)))) q)) (trichotomy (x / 2 ^ n) (y / 2 ^ n))
+  where
+    halves : x / 2 ^ n / 2 ≡ y / 2 ^ n / 2
+    halves = sym (halved x n) ∙ e ∙ halved y n
+
+    here : x / 2 ^ n < y / 2 ^ n → Parted (suc n) x y
+    here l = record { bit = n; below = lt-suc-self n; even = omega (arith, halves); next = omega (arith, halves) }
+
+-- y from bit j up, with the members of low below j
+unfoldable pub lowered : ℕ → ℕ → ℕ → ℕ
+lowered y j low = y / 2 ^ j * 2 ^ j + low % 2 ^ j
+
+-- raised at a bit that it has not, x is larger
+raised-above : (x j low : ℕ) → x / 2 ^ j % 2 ≡ 0 → x < raised x j low
+unfolding raised
+raised-above x j low e =
+    omega (arith, split x j, mod-lt x (pow-pos j), add-mul (x / 2 ^ j) 1 (2 ^ j), one-mul (2 ^ j), ap (λ (k : ℕ). k * 2 ^ j) odd)
+  where
+    odd : x / 2 ^ j / 2 * 2 + 1 ≡ x / 2 ^ j + 1
+    odd = omega arith
+
+-- and above that bit it is the same
+raised-same : (x i d low : ℕ) → raised x i low / 2 ^ (suc i + d) ≡ x / 2 ^ (suc i + d)
+unfolding raised
+raised-same x i d low =
+    sym (shr-shr (raised x i low) (suc i) d) ∙ ap (λ (k : ℕ). k / 2 ^ d) (halved (raised x i low) i ∙ ap (λ (k : ℕ). k / 2) (high (x / 2 ^ i / 2 * 2 + 1) i (mod-lt low (pow-pos i))) ∙ half ∙ sym (halved x i))
+    ∙ shr-shr x (suc i) d
+  where
+    half : (x / 2 ^ i / 2 * 2 + 1) / 2 ≡ x / 2 ^ i / 2
+    half = omega arith
+
+-- so raised at a lower bit it stays below whatever parts from it at a higher one
+raised-below : (n x y i low : ℕ) (r : Parted n x y) → i < r .bit → raised x i low < y
+raised-below n x y i low r h =
+    ⊎-elim (λ (k : y ≤ raised x i low). absurd (omega (arith, shr-mono (r .bit) k, r .next, r .even, same)))
+    (λ (k : raised x i low < y). k) (le-or-lt y (raised x i low))
+  where
+    same : raised x i low / 2 ^ r .bit ≡ x / 2 ^ r .bit
+    same = subst (λ (k : ℕ). raised x i low / 2 ^ k ≡ x / 2 ^ k) total (raised-same x i (r .bit - suc i) low)
+      where
+        total : suc i + (r .bit - suc i) ≡ r .bit
+        total = omega arith
+
+-- What the least number above x says. It is 0 exactly where there is none.
+pub record Next (m : ℕ) (f : ℕ → Bool) (x y : ℕ) : Type 0 where
+  pub above : x < y
+  pub below : y < m
+  pub holds : T (f y)
+  pub none : (z : ℕ) → x < z → z < y → T (not (f z))
+
+module _ (m : ℕ) (f : ℕ → Bool) (x : ℕ) where
+  abbrev later : ℕ → Bool
+  later y = ltb x y && f y
+
+  next-some : (y : ℕ) → Next m f x y → nextAbove m f x ≡ y
+  unfolding nextAbove
+  next-some y r = ap (λ (k : ℕ). cond (ltb k m) k 0) first ∙ ap (λ (b : Bool). cond b y 0) (lt-ltb y m (r .below))
+    where
+      first : firstBelow m later ≡ y
+      first =
+          first-unique m later y (record {
+            below = r .below;
+            holds = both (ltb x y) (f y) (lt→ltb x y (r .above)) (r .holds);
+            least = λ z h. and-not (ltb x z) (f z) (λ t. r .none z (ltb→lt x z t) h);
+          })
+
+  next-none : ((z : ℕ) → x < z → z < m → T (not (f z))) → nextAbove m f x ≡ 0
+  unfolding nextAbove
+  next-none none = ap (λ (k : ℕ). cond (ltb k m) k 0) last ∙ ap (λ (b : Bool). cond b m 0) (le-ltb m m (le-refl m))
+    where
+      last : firstBelow m later ≡ m
+      last = first-none m later (none-any m later (λ z h. and-not (ltb x z) (f z) (λ t. none z (ltb→lt x z t) h)))
+
+  pub next-cases : Next m f x (nextAbove m f x) ⊎ (((z : ℕ) → x < z → z < m → T (not (f z))) × (nextAbove m f x ≡ 0))
+  next-cases = ⊎-elim (λ (t : T (anyBelow m later)). inl (some t)) (λ (t : T (not (anyBelow m later))). inr (no t, next-none (no t))) (decided (anyBelow m later))
+    where
+      no : T (not (anyBelow m later)) → (z : ℕ) → x < z → z < m → T (not (f z))
+      no t z l u = not-and (ltb x z) (f z) (any-failed m later t z u) (lt→ltb x z l)
+
+      some : T (anyBelow m later) → Next m f x (nextAbove m f x)
+      some t = subst (Next m f x) (sym (next-some (firstBelow m later) found)) found
+        where
+          r : First m later (firstBelow m later)
+          r = first-some m later t
+
+          found : Next m f x (firstBelow m later)
+          found =
+              record {
+                above = ltb→lt x (firstBelow m later) (and-left (ltb x (firstBelow m later)) (f (firstBelow m later)) (r .holds));
+                below = r .below;
+                holds = and-right (ltb x (firstBelow m later)) (f (firstBelow m later)) (r .holds);
+                none = λ z l u. not-and (ltb x z) (f z) (r .least z u) (lt→ltb x z l);
+              }
+
+-- the same least number for two tests that agree below the higher bound
+pub next-same : (k m : ℕ) (f g : ℕ → Bool) (x : ℕ) → m ≤ k → ((y : ℕ) → y < k → f y ≡ g y) → ((y : ℕ) → T (g y) → y < m)
+    → nextAbove k f x ≡ nextAbove m g x
+next-same k m f g x h e low =
+    ⊎-elim
+    (λ (r : Next m g x (nextAbove m g x)). next-some k f x (nextAbove m g x) (record {
+      above = r .above;
+      below = lt-of-lt-of-le (r .below) h;
+      holds = subst T (sym (e (nextAbove m g x) (lt-of-lt-of-le (r .below) h))) (r .holds);
+      none = λ z l u. subst (λ (b : Bool). T (not b)) (sym (e z (lt-trans u (lt-of-lt-of-le (r .below) h)))) (r .none z l u);
+    }))
+    (λ (r : ((z : ℕ) → x < z → z < m → T (not (g z))) × (nextAbove m g x ≡ 0)). next-none k f x (λ z l u.
+    refuted (f z) (λ t. let s = subst T (e z u) t in contrary (g z) s (r .0 z l (low z s)))) ∙ sym (r .1)) (next-cases m g x)
+
+-- The search so far: the bits of `free` are still to be tried, and x has none of them; raised at any other bit that it has
+-- not, x fails.
+pub record Searched (n : ℕ) (f : ℕ → Bool) (low x free : ℕ) : Type 0 where
+  pub small : free < 2 ^ n
+  pub spare : (i : ℕ) → T (has free i) → T (not (has x i))
+  pub tried : (i : ℕ) → i < n → T (not (has x i)) → T (not (has free i)) → T (not (f (raised x i low)))
+
+module _ (n : ℕ) (f : ℕ → Bool) (low x : ℕ) where
+  -- it begins with the bits at which x can pass at all
+  pub search-start : (ready : ℕ) → ready < 2 ^ n → x < 2 ^ n → ((i : ℕ) → i < n → T (f (raised x i low)) → T (has ready i))
+      → Searched n f low x (bitAnd ready (2 ^ n - 1 - x))
+  search-start ready h k only =
+      record {
+        small = lt-of-le-of-lt (and-le-l ready (2 ^ n - 1 - x)) h;
+        spare = λ i t. let l = member-below n ready i h (and-left (has ready i) (has (2 ^ n - 1 - x) i) (subst T (has-and ready (2 ^ n - 1 - x) i) t)) in
+            and-right (has ready i) (not (has x i)) (subst T (left i l) t);
+        tried = λ i l s t. refuted (f (raised x i low)) (λ u. contrary (has (bitAnd ready (2 ^ n - 1 - x)) i)
+            (subst T (sym (left i l)) (both (has ready i) (not (has x i)) (only i l u) s)) t);
+      }
+    where
+      left : (i : ℕ) → i < n → has (bitAnd ready (2 ^ n - 1 - x)) i ≡ (has ready i && not (has x i))
+      left i l = has-and ready (2 ^ n - 1 - x) i ∙ ap (λ (t : Bool). has ready i && t) (has-opposite n x i k l)
+
+  -- a turn tries the lowest
+  pub search-turn : (free : ℕ) → Searched n f low x free → 0 < free → let j = trailingZeros n free in
+      T (not (f (raised x j low))) → Searched n f low x (bitAnd free (2 ^ n - 1 - 1 * 2 ^ j % 2 ^ n))
+      × (bitAnd free (2 ^ n - 1 - 1 * 2 ^ j % 2 ^ n) < free)
+  search-turn free s k t = (
+    record {
+      small = lt-of-le-of-lt (and-le-l free others) (s .small);
+      spare = λ i u. s .spare i (and-left (has free i) (has others i) (subst T (has-and free others i) u));
+      tried = λ i l u v. ⊎-elim (λ (w : T (has free i)). again i l u v w) (s .tried i l u) (decided (has free i));
+    },
+    lt-of-le-ne (and-le-l free others) (λ e. contrary (has rest j) (subst (λ (m : ℕ). T (has m j)) (sym e) (r .holds)) gone),
+  )
+    where
+      j : ℕ
+      j = trailingZeros n free
+
+      r : First n (has free) j
+      r = lowest n free (s .small) k
+
+      others : ℕ
+      others = 2 ^ n - 1 - 1 * 2 ^ j % 2 ^ n
+
+      rest : ℕ
+      rest = bitAnd free others
+
+      left : (i : ℕ) → i < n → has rest i ≡ (has free i && not (eqb j i))
+      left i l =
+          has-and free others i
+          ∙ ap (λ (t : Bool). has free i && t) (ap (λ (b : ℕ). has (2 ^ n - 1 - b) i) (one-bit n j (r .below)) ∙ has-opposite n (2 ^ j) i (pow-lt (r .below)) l ∙ ap not (has-power j i))
+
+      gone : T (not (has rest j))
+      gone = of-false (left j (r .below) ∙ ap (λ (t : Bool). has free j && not t) (eq-eqb j j refl) ∙ and-false (has free j))
+
+      again : (i : ℕ) → i < n → T (not (has x i)) → T (not (has rest i)) → T (has free i) → T (not (f (raised x i low)))
+      again i l u v w =
+          subst (λ (m : ℕ). T (not (f (raised x m low))))
+          (eqb→eq j i (not-not-elim (eqb j i) (not-and (has free i) (not (eqb j i)) (subst (λ (b : Bool). T (not b)) (left i l) v) w))) t
+
+-- A test that keeps holding where the members below one of its members come down to those of low.
+module _ (n : ℕ) (f : ℕ → Bool) (low : ℕ)
+    (closed : (y j : ℕ) → y < 2 ^ n → j < n → T (has y j) → T (f y) → T (f (lowered y j low)) × (lowered y j low ≤ y)) where
+  -- x raised where y parts from it passes if y does, and is not above y
+  reached : (x y : ℕ) (r : Parted n x y) → y < 2 ^ n → T (f y) → T (f (raised x (r .bit) low)) × (raised x (r .bit) low ≤ y)
+  unfolding raised lowered has
+  reached x y r k t =
+      subst (λ (z : ℕ). T (f z) × (z ≤ y)) (ap (λ (k : ℕ). k * 2 ^ r .bit + low % 2 ^ r .bit) (r .next))
+      (closed y (r .bit) k (r .below) (of-true (ap (λ (k : ℕ). eqb k 1) odd)) t)
+    where
+      odd : y / 2 ^ r .bit % 2 ≡ 1
+      odd = omega (arith, r .next)
+
+  spared : (x y : ℕ) (r : Parted n x y) → T (not (has x (r .bit)))
+  unfolding has
+  spared x y r = of-false (ap (λ (k : ℕ). eqb k 1) (r .even))
+
+  part : (x y : ℕ) → x < y → y < 2 ^ n → Parted n x y
+  part x y h k = parted n x y (div-eq-of-lt (lt-trans h k) ∙ sym (div-eq-of-lt k)) h
+
+  pub none-above : (x : ℕ) → ((j : ℕ) → j < n → T (not (has x j)) → T (not (f (raised x j low)))) → nextAbove (2 ^ n) f x ≡ 0
+  none-above x none =
+      next-none (2 ^ n) f x (λ z h k. refuted (f z) (λ t. let r = part x z h k in
+      contrary (f (raised x (r .bit) low)) (reached x z r k t .0) (none (r .bit) (r .below) (spared x z r))))
+
+  pub found-above : (x j : ℕ) → T (not (has x j)) → T (f (raised x j low)) → raised x j low < 2 ^ n
+      → ((i : ℕ) → i < j → T (not (has x i)) → T (not (f (raised x i low)))) → nextAbove (2 ^ n) f x ≡ raised x j low
+  found-above x j s t b least =
+      next-some (2 ^ n) f x (raised x j low) (record {
+        above = raised-above x j low (even x j s);
+        below = b;
+        holds = t;
+        none = λ z h k. refuted (f z) (λ u. earlier z (part x z h (lt-trans k b)) k (lt-trans k b) u);
+      })
+    where
+      earlier : (z : ℕ) (r : Parted n x z) → z < raised x j low → z < 2 ^ n → T (f z) → ⊥
+      earlier z r k l u =
+          ⊎-elim (λ (e : r .bit ≡ j). omega (arith, reached x z r l u .1, ap (λ (i : ℕ). raised x i low) e))
+          (⊎-elim (λ (h : r .bit < j). contrary (f (raised x (r .bit) low)) (reached x z r l u .0) (least (r .bit) h (spared x z r)))
+          (λ (h : j < r .bit). omega (arith, raised-below n x z j low r h))) (trichotomy (r .bit) j)
+
+  -- the search ends with nothing left to try, or at the lowest bit that passes
+  pub search-end : (x free : ℕ) → Searched n f low x free → free ≡ 0 → nextAbove (2 ^ n) f x ≡ 0
+  search-end x free s e =
+      none-above x (λ j h t. s .tried j h t (of-false (ap (λ (k : ℕ). has k j) e ∙ has-zero j)))
+
+  pub search-found : (x free : ℕ) → Searched n f low x free → 0 < free → let j = trailingZeros n free in T (f (raised x j low))
+      → raised x j low < 2 ^ n → nextAbove (2 ^ n) f x ≡ raised x j low
+  search-found x free s k t b =
+      let r = lowest n free (s .small) k in
+      found-above x (trailingZeros n free) (s .spare (trailingZeros n free) (r .holds)) t b
+      (λ i h u. s .tried i (lt-trans h (r .below)) u (r .least i h))

@@ -1,0 +1,134 @@
+-- Next states by masks. Assumes nothing.
+use Prim.Native.Nat.{ℕ, _-_, _^_, _≤_, _<_}
+use native.Mathlib.Nat.{lt-of-le-of-lt}
+use mathlib.Core.Path.{_≡_, refl, sym, _∙_, ap, ap₂, subst}
+use mathlib.Core.Logic.{⊎-elim}
+use mathlib.Core.Bool.{Bool, true, false, cond, not, _&&_, _||_, and-true, and-false, or-false}
+use lib.Bits.{bitAnd, bitOr, and-le-l, or-lt}
+use lib.Dec.{T, ltb, ltb→lt}
+use borrow.Author.Tests.{lt-ltb}
+use Rattle.machine.specs.Sets.{has, maskBelow}
+use Rattle.machine.proofs.Truth.{and-left}
+use Rattle.machine.proofs.Sets.{le-or-lt, has-high, has-mask, mask-lt, mask-same, member-below, set-below}
+use Rattle.masks.proofs.Bits.{has-and, has-or, has-opposite, is-mask, cut-mask}
+use Rattle.meaning.specs.Graph.{Graph, operationCount, controlCount, producer}
+use Rattle.meaning.specs.Steps.{resolved, after}
+use Rattle.steps.specs.Masks.{produced, begun}
+
+-- `low` is the set of the operations, as far as a mask reaches
+pub done-mask : (g : Graph) (done values step word low : ℕ) → done < 2 ^ 32 → step < 2 ^ 32
+    → low ≡ maskBelow 32 (λ j. ltb j (operationCount g)) → bitAnd (bitOr done step) low ≡ after g done values step word .done
+unfolding after
+done-mask g done values step word low h k e =
+    cut-mask 32 (operationCount g) (bitOr done step) low (or-lt 32 done step h k) e
+    ∙ mask-same (operationCount g) (has (bitOr done step)) (λ j. has done j || has step j) (λ j l. has-or done step j)
+
+module _ (g : Graph) (done step : ℕ) where
+  produced-lt : (set : ℕ) → produced g set < 2 ^ 32
+  unfolding produced
+  produced-lt set = mask-lt 32 (λ b. ltb b (controlCount g) && has set (producer g b))
+
+  has-produced : (set b : ℕ) → b < 32 → has (produced g set) b ≡ (ltb b (controlCount g) && has set (producer g b))
+  unfolding produced
+  has-produced set b h = has-mask 32 (λ b. ltb b (controlCount g) && has set (producer g b)) b h
+
+  pub begun-mask : bitAnd (produced g step) (2 ^ 32 - 1 - produced g done) ≡ begun g done step
+  unfolding begun
+  begun-mask =
+      is-mask 32 (bitAnd (produced g step) (2 ^ 32 - 1 - produced g done))
+      (λ b. ltb b (controlCount g) && (has step (producer g b) && not (has done (producer g b))))
+      (lt-of-le-of-lt (and-le-l (produced g step) (2 ^ 32 - 1 - produced g done)) (produced-lt step))
+      (λ b h. has-and (produced g step) (2 ^ 32 - 1 - produced g done) b
+      ∙ ap₂ (λ (s t : Bool). s && t) (has-produced step b h)
+      (has-opposite 32 (produced g done) b (produced-lt done) h ∙ ap not (has-produced done b h))
+      ∙ fresh (ltb b (controlCount g)) (has step (producer g b)) (has done (producer g b)))
+    where
+      fresh : (l s d : Bool) → ((l && s) && not (l && d)) ≡ (l && (s && not d))
+      fresh true s d = refl
+      fresh false s d = refl
+
+  begun-lt : begun g done step < 2 ^ 32
+  unfolding begun
+  begun-lt = mask-lt 32 (λ b. ltb b (controlCount g) && (has step (producer g b) && not (has done (producer g b))))
+
+  has-begun : (b : ℕ) → b < 32
+      → has (begun g done step) b ≡ (ltb b (controlCount g) && (has step (producer g b) && not (has done (producer g b))))
+  unfolding begun
+  has-begun b h = has-mask 32 (λ b. ltb b (controlCount g) && (has step (producer g b) && not (has done (producer g b)))) b h
+
+  pub values-mask : (values word : ℕ) → values < 2 ^ 32 → word < 2 ^ 32
+      → bitOr (bitAnd (produced g done) values) (bitAnd (begun g done step) word) ≡ after g done values step word .values
+  unfolding after resolved
+  values-mask values word v w = is-mask c next value (set-below c next inside) each
+    where
+      c : ℕ
+      c = controlCount g
+
+      next : ℕ
+      next = bitOr (bitAnd (produced g done) values) (bitAnd (begun g done step) word)
+
+      value : ℕ → Bool
+      value b = cond (has done (producer g b)) (has values b) (has step (producer g b) && has word b)
+
+      parts : (b : ℕ) → has next b ≡ ((has (produced g done) b && has values b) || (has (begun g done step) b && has word b))
+      parts b =
+          has-or (bitAnd (produced g done) values) (bitAnd (begun g done step) word) b
+          ∙ ap₂ (λ (s t : Bool). s || t) (has-and (produced g done) values b) (has-and (begun g done step) word b)
+
+      low : (b : ℕ) → b < 32 → has next b ≡ (ltb b c && value b)
+      low b h =
+          parts b ∙ ap₂ (λ (s t : Bool). (s && has values b) || (t && has word b)) (has-produced done b h) (has-begun b h)
+          ∙ chosen (ltb b c) (has done (producer g b)) (has step (producer g b)) (has values b) (has word b)
+        where
+          chosen : (l d s x y : Bool) → (((l && d) && x) || ((l && (s && not d)) && y)) ≡ (l && cond d x (s && y))
+          chosen true true true x y = or-false x
+          chosen true true false x y = or-false x
+          chosen true false s x y = ap (λ (t : Bool). t && y) (and-true s)
+          chosen false d s x y = refl
+
+      high : (b : ℕ) → 32 ≤ b → has next b ≡ false
+      high b h = parts b ∙ rw (has-high (produced g done) 32 b (produced-lt done) h, has-high (begun g done step) 32 b begun-lt h) refl
+
+      inside : (b : ℕ) → T (has next b) → b < c
+      inside b t =
+          ⊎-elim (λ (h : 32 ≤ b). absurd (subst T (high b h) t))
+          (λ (h : b < 32). ltb→lt b c (and-left (ltb b c) (value b) (subst T (low b h) t))) (le-or-lt 32 b)
+
+      each : (b : ℕ) → b < c → has next b ≡ value b
+      each b l =
+          ⊎-elim (λ (h : 32 ≤ b). high b h ∙ rw (has-high values 32 b v h, has-high word 32 b w h) (none (has done (producer g b)) (has step (producer g b))))
+          (λ (h : b < 32). low b h ∙ ap (λ (t : Bool). t && value b) (lt-ltb b c l)) (le-or-lt 32 b)
+        where
+          none : (d s : Bool) → false ≡ cond d false (s && false)
+          none true s = refl
+          none false s = sym (and-false s)
+
+  -- an outcome is a word
+  pub begun-below : begun g done step < 2 ^ controlCount g
+  begun-below =
+      set-below (controlCount g) (begun g done step) (λ b t.
+      ltb→lt b (controlCount g) (and-left (ltb b (controlCount g)) (has step (producer g b) && not (has done (producer g b)))
+      (subst T (has-begun b (member-below 32 (begun g done step) b begun-lt t)) t)))
+
+  -- the next state depends only on the outcomes of the controls begun
+  pub after-outcome : (values word : ℕ) → word < 2 ^ 32
+      → after g done values step word ≡ after g done values step (bitAnd word (begun g done step))
+  unfolding after resolved
+  after-outcome values word w = λ i. record {
+    done = maskBelow (operationCount g) (λ j. has done j || has step j);
+    values = mask-same (controlCount g) (value word) (value (bitAnd word (begun g done step))) each i;
+  }
+    where
+      value : ℕ → ℕ → Bool
+      value k b = cond (has done (producer g b)) (has values b) (has step (producer g b) && has k b)
+
+      each : (b : ℕ) → b < controlCount g → value word b ≡ value (bitAnd word (begun g done step)) b
+      each b l =
+          ⊎-elim (λ (h : 32 ≤ b). rw (has-and word (begun g done step) b, has-high word 32 b w h) refl)
+          (λ (h : b < 32). rw (has-and word (begun g done step) b, has-begun b h, lt-ltb b (controlCount g) l)
+          (kept (has done (producer g b)) (has step (producer g b)) (has values b) (has word b))) (le-or-lt 32 b)
+        where
+          kept : (d s x y : Bool) → cond d x (s && y) ≡ cond d x (s && (y && (s && not d)))
+          kept true s x y = refl
+          kept false true x y = sym (and-true y)
+          kept false false x y = refl

@@ -1,0 +1,8 @@
+pub mod Tests
+pub mod Scan
+pub mod Literals
+pub mod Rules
+pub mod Allowed
+pub mod After
+pub mod Above
+pub mod Fewer
