@@ -78,13 +78,14 @@ pub record Walked (ls : List Line) (n i : ℕ) : Type 0 where
   pub within : i ≤ n
   pub rest : judge ls ≡ judge (drop i ls)
 
--- A walk through a table finds what each line says: the rest of the table counts where the line passes.
-pub line-by-line : (ls : List Line) (i : ℕ) → i < length ls → {v : Verdict} → v ≡ judge (entry ls i ∷ [])
-    → judge (drop i ls) ≡ otherwise v (judge (drop (i + 1) ls))
+-- A walk goes on with what its line says: the rest of the table counts where the line passes.
+pub walk-on : {ls : List Line} {n i : ℕ} {v : Verdict} → Walked ls n i → i < length ls → v ≡ judge (entry ls i ∷ [])
+    → judge ls ≡ otherwise v (judge (drop (i + 1) ls))
 unfolding entry
-line-by-line ls i h e =
-    ap judge (drop-cons ls i (placeless 0 false) h) ∙ judge-append (getD ls i (placeless 0 false) ∷ []) (drop (suc i) ls)
-    ∙ ap₂ (λ (v : Verdict) (k : ℕ). otherwise v (judge (drop k ls))) (sym e) (sym (add-one i))
+walk-on {ls} {n} {i} w h e =
+    w .rest ∙ ap judge (drop-cons ls i (placeless 0 false) h)
+    ∙ judge-append (getD ls i (placeless 0 false) ∷ []) (drop (suc i) ls)
+    ∙ ap₂ (λ (u : Verdict) (k : ℕ). otherwise u (judge (drop k ls))) (sym e) (sym (add-one i))
 
 -- a line whose place is not named
 pub placeless-first : (k : ℕ) (b : Bool) (ls : List Line) → judge (placeless k b ∷ ls) ≡ cond b (refused k 0) (judge ls)

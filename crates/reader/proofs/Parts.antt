@@ -1,8 +1,8 @@
 -- The parts of a graph file: what a header that passes says of them, and that they are cut where they stand. Assumes nothing.
-use Prim.Native.Nat.{ℕ, zero, suc, _+_, _-_, _≤_, zero-le}
-use native.Mathlib.Nat.{sub-zero, le-of-suc-le-suc}
+use Prim.Native.Nat.{ℕ, zero, suc, _-_, _≤_}
+use native.Mathlib.Nat.{sub-zero}
 use native.Mathlib.Omega.{arith}
-use mathlib.Core.Path.{_≡_, refl, sym, _∙_, ap, ap₂, subst}
+use mathlib.Core.Path.{_≡_, refl, sym, _∙_, ap}
 use mathlib.Core.Bool.{Bool, true, false, cond, not, _&&_}
 use mathlib.Core.List.{List, [], _∷_}
 use lib.ListN.{length, take, drop}
@@ -11,7 +11,7 @@ use lib.Dec.{ltb, eqb}
 use borrow.Author.Tests.{eqb-true, not-false}
 use Rattle.machine.specs.Refusals.{Verdict, taken, refused, judge}
 use Rattle.machine.proofs.Truth.{and-right, of-true, true-of}
-use Rattle.meaning.specs.Graph.{Graph, byteAt, known, editionOf, operationsStart, controlsStart, arcsStart, fileEnd, fileLines, content, contentLines}
+use Rattle.meaning.specs.Graph.{byteAt, known, editionOf, operationsStart, controlsStart, arcsStart, fileEnd, fileLines, content, contentLines}
 use Rattle.meaning.specs.Answers.{graphVerdict, graphLines}
 use Rattle.reader.specs.Reading.{Laid, graphOf, lineOf}
 use Rattle.reader.proofs.Chain.{otherwise, judge-append, header-verdict}

@@ -1,7 +1,6 @@
 // The records of operations and arcs. A record number is small enough where the place of its last byte is a number.
 use crate::Literals;
 use crate::bytes::byte;
-use crate::sets::misnamed;
 ghost use mathlib.Core.Path.{_≡_};
 ghost use mathlib.Core.List.{[]};
 ghost use Prim.Native.Nat.{_+_, _*_, _^_, _<_};
@@ -55,6 +54,7 @@ pub(crate) fn unordered(arcs: &[u8], a: usize) -> bool
     }
     let before = ARC_BYTES * (a - 1);
     let at = ARC_BYTES * a;
-    !((byte(arcs, before + 1) < byte(arcs, at + 1))
-        | ((byte(arcs, before + 1) == byte(arcs, at + 1)) & (byte(arcs, before) < byte(arcs, at))))
+    let last = byte(arcs, before + 1);
+    let target = byte(arcs, at + 1);
+    !((last < target) | ((last == target) & (byte(arcs, before) < byte(arcs, at))))
 }

@@ -10,14 +10,13 @@ use Rattle.reader.proofs.content_fault.Tie as tie
 
 returns : tie.Need-returns
 returns c =
-    let part4 = c .before in
-    let ends = part4 .before .before .before .before in
-    let mids = ends .before in
-    let begins = mids .before in
-    let start = begins .before .before in
     c .judge .ensures
     ∙ ap (λ (g : Graph). judge (contentLines g))
-    (cut (now (start .args .file)) (start .pre) _ _ _ (begins .operations-start .ensures) (mids .controls-start .ensures) (ends .arcs-start .ensures))
+    (cut (now (c .before .before .before .before .before .before .before .before .before .args .file))
+    (c .before .before .before .before .before .before .before .before .before .pre) _ _ _
+    (c .before .before .before .before .before .before .before .operations-start .ensures)
+    (c .before .before .before .before .before .before .controls-start .ensures)
+    (c .before .before .before .before .before .arcs-start .ensures))
 
 pub content-fault-spec : {M : Type 1} → statement M
 content-fault-spec =

@@ -6,7 +6,7 @@ use mathlib.Core.Path.{refl, sym, _∙_}
 use Rattle.machine.specs.Refusals.{judge}
 use Rattle.meaning.specs.Graph.{contentLines}
 use Rattle.reader.specs.Reading.{graphOf, verdictOf}
-use Rattle.reader.proofs.Chain.{Walked, otherwise, line-by-line}
+use Rattle.reader.proofs.Chain.{Walked, otherwise, walk-on}
 use Rattle.reader.proofs.judge.Statement.{statement}
 use Rattle.reader.proofs.judge.Tie as tie
 
@@ -26,8 +26,7 @@ lines-again c =
     let d = c .before .before in
     record {
       within = omega arith;
-      rest =
-          d .before .before .lines .inv .rest ∙ line-by-line _ _ (omega arith) (d .line .ensures) ∙ rw (c .enum-told2 .given .1) refl;
+      rest = walk-on (d .before .before .lines .inv) (omega arith) (d .line .ensures) ∙ rw (c .enum-told2 .given .1) refl;
     }
 
 returns : tie.Need-returns Inv-lines μ-lines
@@ -38,7 +37,7 @@ returns-2 : tie.Need-returns-2 Inv-lines μ-lines
 unfolding verdictOf otherwise contentLines
 returns-2 c =
     let d = c .before .before in
-    sym (d .before .before .lines .inv .rest ∙ line-by-line _ _ (omega arith) (d .line .ensures) ∙ rw (c .enum-told .given .1) refl)
+    sym (walk-on (d .before .before .lines .inv) (omega arith) (d .line .ensures) ∙ rw (c .enum-told .given .1) refl)
 
 pub judge-spec : {M : Type 1} → statement M
 judge-spec =

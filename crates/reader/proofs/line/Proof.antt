@@ -1,3 +1,5 @@
+-- `reader::line` meets its contract: a line of the table looks at its own parts alone, so it is the same for any graph that
+-- has them. Assumes nothing.
 use native.Mathlib.Omega.{arith}
 use mathlib.Core.Path.{_≡_}
 use borrow.Author.Needs.{needs}
@@ -7,27 +9,27 @@ use Rattle.reader.proofs.line.Statement.{statement}
 use Rattle.reader.proofs.line.Tie as tie
 
 returns : tie.Need-returns
-unfolding contentLines strayPath path producer class source target kind joins followsJoin unordered operationCount classCount controlCount arcCount operationBytes arcBytes graphOf lineOf entry
+unfolding graphOf lineOf entry contentLines operationCount classCount class operationBytes
 returns c = rw (c .before .match .keys1) (c .classes .ensures)
 
 returns-2 : tie.Need-returns-2
-unfolding contentLines strayPath path producer class source target kind joins followsJoin unordered operationCount classCount controlCount arcCount operationBytes arcBytes graphOf lineOf entry
+unfolding graphOf lineOf entry contentLines operationCount controlCount path operationBytes
 returns-2 c = rw (c .before .match .keys2) (c .paths .ensures)
 
 returns-3 : tie.Need-returns-3
-unfolding contentLines strayPath path producer class source target kind joins followsJoin unordered operationCount classCount controlCount arcCount operationBytes arcBytes graphOf lineOf entry
+unfolding graphOf lineOf entry contentLines operationCount controlCount producer operationBytes
 returns-3 c = rw (c .before .match .keys3) (c .producers .ensures)
 
 returns-4 : tie.Need-returns-4
-unfolding contentLines strayPath path producer class source target kind joins followsJoin unordered operationCount classCount controlCount arcCount operationBytes arcBytes graphOf lineOf entry
+unfolding graphOf lineOf entry contentLines operationCount controlCount strayPath path producer operationBytes
 returns-4 c = rw (c .before .match .keys4) (c .branches .ensures)
 
 returns-5 : tie.Need-returns-5
-unfolding contentLines strayPath path producer class source target kind joins followsJoin unordered operationCount classCount controlCount arcCount operationBytes arcBytes graphOf lineOf entry
+unfolding graphOf lineOf entry contentLines arcCount operationCount controlCount source target kind joins followsJoin unordered operationBytes arcBytes
 returns-5 c = rw (c .before .match .keys5) (c .arcs-fit .ensures)
 
 returns-6 : tie.Need-returns-6
-unfolding contentLines strayPath path producer class source target kind joins followsJoin unordered operationCount classCount controlCount arcCount operationBytes arcBytes graphOf lineOf entry
+unfolding graphOf lineOf entry contentLines arcCount controlCount source target path joins operationBytes arcBytes
 returns-6 c =
     let i = c .before .before .before .before .before .before .args .i in
     let last : i ≡ 5 = omega arith in

@@ -1,4 +1,5 @@
 -- `reader::content::classless` meets its contract. Assumes nothing.
+use mathlib.Core.Path.{refl}
 use borrow.Author.Needs.{needs}
 use Rattle.meaning.specs.Graph.{contentLines, classCount, class, operationBytes}
 use Rattle.reader.specs.Reading.{graphOf, lineOf}
@@ -7,7 +8,7 @@ use Rattle.reader.proofs.content.classless.Tie as tie
 
 returns : tie.Need-returns
 unfolding contentLines classCount class operationBytes graphOf lineOf
-returns c = cc
+returns c = rw (c .byte .ensures) refl
 
 pub classless-spec : {M : Type 1} → statement M
 classless-spec = tie.close (tie.spec (λ c. search needs) (λ c κs. search needs) (λ c. search needs) returns)

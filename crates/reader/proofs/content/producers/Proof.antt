@@ -1,6 +1,6 @@
 -- `reader::content::producers` meets its contract. The inner loop looks for an earlier control of the same operation, so
 -- what it finds is the second part of whether control b is at fault. Assumes nothing.
-use Prim.Native.Nat.{_-_, _/_}
+use Prim.Native.Nat.{_-_}
 use mathlib.Core.Path.{refl, sym, _∙_, ap}
 use mathlib.Core.List.{[]}
 use lib.Dec.{eqb, leb}

@@ -1,4 +1,5 @@
 -- `reader::content::stray` meets its contract. Assumes nothing.
+use mathlib.Core.Path.{refl}
 use borrow.Author.Needs.{needs}
 use Rattle.meaning.specs.Graph.{strayPath, path, producer, operationBytes, controlCount}
 use Rattle.reader.specs.Reading.{graphOf}
@@ -7,7 +8,13 @@ use Rattle.reader.proofs.content.stray.Tie as tie
 
 returns : tie.Need-returns
 unfolding strayPath path producer operationBytes controlCount graphOf
-returns c = cc
+returns c = rw (
+  c .lacks .ensures,
+  c .before .names .ensures,
+  c .before .before .path2 .ensures,
+  c .before .before .before .path .ensures,
+  c .before .before .before .before .byte .ensures,
+) refl
 
 pub stray-spec : {M : Type 1} → statement M
 stray-spec =

@@ -1,4 +1,5 @@
 -- `reader::content::unfit` meets its contract. Assumes nothing.
+use mathlib.Core.Path.{refl}
 use borrow.Author.Needs.{needs}
 use Rattle.meaning.specs.Graph.{contentLines, operationCount, operationBytes, controlCount, source, target, kind, joins, followsJoin, unordered, arcBytes}
 use Rattle.reader.specs.Reading.{graphOf, lineOf}
@@ -7,7 +8,15 @@ use Rattle.reader.proofs.content.unfit.Tie as tie
 
 returns : tie.Need-returns
 unfolding contentLines operationCount operationBytes controlCount source target kind joins followsJoin unordered arcBytes graphOf lineOf
-returns c = cc
+returns c = rw (
+  c .unordered .ensures,
+  c .before .follows-join .ensures,
+  c .before .before .misnamed .ensures,
+  c .before .before .before .joins .ensures,
+  c .before .before .before .before .byte3 .ensures,
+  c .before .before .before .before .before .byte2 .ensures,
+  c .before .before .before .before .before .before .byte .ensures,
+) refl
 
 pub unfit-spec : {M : Type 1} → statement M
 unfit-spec =

@@ -1,4 +1,5 @@
 -- `reader::content::unjoined` meets its contract. Assumes nothing.
+use mathlib.Core.Path.{refl}
 use borrow.Author.Needs.{needs}
 use Rattle.meaning.specs.Graph.{contentLines, path, operationBytes, controlCount, source, target, joins, arcBytes}
 use Rattle.reader.specs.Reading.{graphOf, lineOf}
@@ -7,7 +8,14 @@ use Rattle.reader.proofs.content.unjoined.Tie as tie
 
 returns : tie.Need-returns
 unfolding contentLines path operationBytes controlCount source target joins arcBytes graphOf lineOf
-returns c = cc
+returns c = rw (
+  c .lacks .ensures,
+  c .before .joins .ensures,
+  c .before .before .path2 .ensures,
+  c .before .before .before .path .ensures,
+  c .before .before .before .before .byte2 .ensures,
+  c .before .before .before .before .before .byte .ensures,
+) refl
 
 pub unjoined-spec : {M : Type 1} → statement M
 unjoined-spec =

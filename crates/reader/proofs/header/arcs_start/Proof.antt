@@ -1,4 +1,5 @@
 -- `reader::header::arcs_start` meets its contract. Assumes nothing.
+use mathlib.Core.Path.{refl}
 use borrow.Author.Needs.{needs}
 use Rattle.meaning.specs.Graph.{arcsStart, controlsStart, operationsStart, classesOf, operationsOf, controlsOf, operationBytes}
 use Rattle.reader.proofs.header.arcs_start.Statement.{statement}
@@ -6,7 +7,7 @@ use Rattle.reader.proofs.header.arcs_start.Tie as tie
 
 returns : tie.Need-returns
 unfolding arcsStart controlsStart operationsStart classesOf operationsOf controlsOf operationBytes
-returns c = cc
+returns c = rw (c .byte3 .ensures, c .before .byte2 .ensures, c .before .before .byte .ensures) refl
 
 pub arcs-start-spec : {M : Type 1} → statement M
 arcs-start-spec =

@@ -1,4 +1,5 @@
 -- `reader::header::controls_start` meets its contract. Assumes nothing.
+use mathlib.Core.Path.{refl}
 use borrow.Author.Needs.{needs}
 use Rattle.meaning.specs.Graph.{controlsStart, operationsStart, classesOf, operationsOf, operationBytes}
 use Rattle.reader.proofs.header.controls_start.Statement.{statement}
@@ -6,7 +7,7 @@ use Rattle.reader.proofs.header.controls_start.Tie as tie
 
 returns : tie.Need-returns
 unfolding controlsStart operationsStart classesOf operationsOf operationBytes
-returns c = cc
+returns c = rw (c .byte2 .ensures, c .before .byte .ensures) refl
 
 pub controls-start-spec : {M : Type 1} → statement M
 controls-start-spec =

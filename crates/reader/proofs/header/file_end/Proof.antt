@@ -1,4 +1,5 @@
 -- `reader::header::file_end` meets its contract. Assumes nothing.
+use mathlib.Core.Path.{refl}
 use borrow.Author.Needs.{needs}
 use Rattle.meaning.specs.Graph.{fileEnd, arcsOf, arcBytes, arcsStart, controlsStart, operationsStart, classesOf, operationsOf, controlsOf, operationBytes}
 use Rattle.reader.proofs.header.file_end.Statement.{statement}
@@ -6,7 +7,12 @@ use Rattle.reader.proofs.header.file_end.Tie as tie
 
 returns : tie.Need-returns
 unfolding fileEnd arcsOf arcBytes arcsStart controlsStart operationsStart classesOf operationsOf controlsOf operationBytes
-returns c = cc
+returns c = rw (
+  c .pair .ensures,
+  c .before .byte3 .ensures,
+  c .before .before .byte2 .ensures,
+  c .before .before .before .byte .ensures,
+) refl
 
 pub file-end-spec : {M : Type 1} → statement M
 file-end-spec =

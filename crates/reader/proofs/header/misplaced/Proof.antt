@@ -1,4 +1,5 @@
 -- `reader::header::misplaced` meets its contract. Assumes nothing.
+use mathlib.Core.Path.{refl}
 use borrow.Author.Needs.{needs}
 use Rattle.meaning.specs.Graph.{fileLines}
 use Rattle.reader.specs.Reading.{lineOf}
@@ -7,7 +8,15 @@ use Rattle.reader.proofs.header.misplaced.Tie as tie
 
 returns : tie.Need-returns
 unfolding fileLines lineOf
-returns c = cc
+returns c = rw (
+  c .arcs-start .ensures,
+  c .before .pair4 .ensures,
+  c .before .before .controls-start .ensures,
+  c .before .before .before .pair3 .ensures,
+  c .before .before .before .before .operations-start .ensures,
+  c .before .before .before .before .before .pair2 .ensures,
+  c .before .before .before .before .before .before .pair .ensures,
+) refl
 
 pub misplaced-spec : {M : Type 1} → statement M
 misplaced-spec =

@@ -1,4 +1,5 @@
 -- `reader::header::operations_start` meets its contract. Assumes nothing.
+use mathlib.Core.Path.{refl}
 use borrow.Author.Needs.{needs}
 use Rattle.meaning.specs.Graph.{operationsStart, classesOf}
 use Rattle.reader.proofs.header.operations_start.Statement.{statement}
@@ -6,7 +7,7 @@ use Rattle.reader.proofs.header.operations_start.Tie as tie
 
 returns : tie.Need-returns
 unfolding operationsStart classesOf
-returns c = cc
+returns c = rw (c .byte .ensures) refl
 
 pub operations-start-spec : {M : Type 1} → statement M
 operations-start-spec = tie.close (tie.spec (λ c κs. search needs) (λ c. search needs) (λ c. search needs) returns)

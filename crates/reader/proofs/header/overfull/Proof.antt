@@ -1,4 +1,5 @@
 -- `reader::header::overfull` meets its contract. Assumes nothing.
+use mathlib.Core.Path.{refl}
 use borrow.Author.Needs.{needs}
 use Rattle.meaning.specs.Graph.{fileLines, mostOperations, mostClasses, mostControls, mostArcs, operationsOf, classesOf, controlsOf, arcsOf}
 use Rattle.reader.specs.Reading.{lineOf}
@@ -7,7 +8,12 @@ use Rattle.reader.proofs.header.overfull.Tie as tie
 
 returns : tie.Need-returns
 unfolding fileLines mostOperations mostClasses mostControls mostArcs operationsOf classesOf controlsOf arcsOf lineOf
-returns c = cc
+returns c = rw (
+  c .pair .ensures,
+  c .before .byte3 .ensures,
+  c .before .before .byte2 .ensures,
+  c .before .before .before .byte .ensures,
+) refl
 
 pub overfull-spec : {M : Type 1} → statement M
 overfull-spec =

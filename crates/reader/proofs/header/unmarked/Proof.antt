@@ -1,4 +1,5 @@
 -- `reader::header::unmarked` meets its contract. Assumes nothing.
+use mathlib.Core.Path.{refl}
 use borrow.Author.Needs.{needs}
 use Rattle.meaning.specs.Graph.{fileLines, editionOf, known}
 use Rattle.reader.specs.Reading.{lineOf}
@@ -7,7 +8,7 @@ use Rattle.reader.proofs.header.unmarked.Tie as tie
 
 returns : tie.Need-returns
 unfolding fileLines editionOf known lineOf
-returns c = cc
+returns c = rw (c .byte3 .ensures, c .before .byte2 .ensures, c .before .before .byte .ensures) refl
 
 pub unmarked-spec : {M : Type 1} → statement M
 unmarked-spec = tie.close (tie.spec (λ c κs. search needs) (λ c κs. search needs) (λ c κs. search needs) returns)

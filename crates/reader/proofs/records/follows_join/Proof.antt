@@ -1,4 +1,5 @@
 -- `reader::records::follows_join` meets its contract. Assumes nothing.
+use mathlib.Core.Path.{refl}
 use borrow.Author.Needs.{needs}
 use Rattle.meaning.specs.Graph.{followsJoin, kind, joins, arcBytes}
 use Rattle.reader.specs.Reading.{graphOf}
@@ -7,7 +8,7 @@ use Rattle.reader.proofs.records.follows_join.Tie as tie
 
 returns : tie.Need-returns
 unfolding followsJoin kind joins arcBytes graphOf
-returns c = cc
+returns c = rw (c .byte3 .ensures, c .before .byte2 .ensures, c .before .before .byte .ensures) refl
 
 pub follows-join-spec : {M : Type 1} → statement M
 follows-join-spec =

@@ -1,4 +1,5 @@
 -- `reader::records::joins` meets its contract. Assumes nothing.
+use mathlib.Core.Path.{refl}
 use borrow.Author.Needs.{needs}
 use Rattle.meaning.specs.Graph.{joins, arcBytes}
 use Rattle.reader.specs.Reading.{graphOf, literalsOf}
@@ -7,7 +8,7 @@ use Rattle.reader.proofs.records.joins.Tie as tie
 
 returns : tie.Need-returns
 unfolding joins arcBytes graphOf literalsOf
-returns c = cc
+returns c = rw (c .byte2 .ensures, c .before .byte .ensures) refl
 
 pub joins-spec : {M : Type 1} → statement M
 joins-spec = tie.close (tie.spec (λ c. search needs) (λ c. search needs) (λ c κs. search needs) (λ c. search needs) (λ c κs. search needs) returns)

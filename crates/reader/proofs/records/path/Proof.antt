@@ -1,4 +1,5 @@
 -- `reader::records::path` meets its contract. Assumes nothing.
+use mathlib.Core.Path.{refl}
 use borrow.Author.Needs.{needs}
 use Rattle.meaning.specs.Graph.{path, operationBytes}
 use Rattle.reader.specs.Reading.{graphOf, literalsOf}
@@ -7,7 +8,7 @@ use Rattle.reader.proofs.records.path.Tie as tie
 
 returns : tie.Need-returns
 unfolding path operationBytes graphOf literalsOf
-returns c = cc
+returns c = rw (c .byte2 .ensures, c .before .byte .ensures) refl
 
 pub path-spec : {M : Type 1} → statement M
 path-spec = tie.close (tie.spec (λ c. search needs) (λ c. search needs) (λ c κs. search needs) (λ c. search needs) (λ c κs. search needs) returns)

@@ -15,8 +15,13 @@ returns c = rw (c .if1 .taken) refl
 returns-2 : tie.Need-returns-2
 unfolding unordered source target arcBytes graphOf
 returns-2 c =
-    let start = c .before .before .before .before .before .before .before .before in
-    rw (lt-ltb 0 (start .args .a) (omega arith)) (cc)
+    rw (
+      lt-ltb 0 (c .before .before .before .before .before .before .args .a) (omega arith),
+      c .byte4 .ensures,
+      c .before .byte3 .ensures,
+      c .before .before .byte2 .ensures,
+      c .before .before .before .byte .ensures,
+    ) refl
 
 pub unordered-spec : {M : Type 1} → statement M
 unordered-spec =
@@ -26,10 +31,6 @@ unordered-spec =
     (λ c. search needs)
     (λ c. search needs)
     (λ c. search needs)
-    (λ c. search needs)
-    (λ c κs. search needs)
-    (λ c. search needs)
-    (λ c κs. search needs)
     (λ c. search needs)
     (λ c κs. search needs)
     (λ c. search needs)
