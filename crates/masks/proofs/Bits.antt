@@ -4,7 +4,7 @@ use native.Mathlib.Nat.{eq-zero-or-pos, div-one, mod-lt, zero-lt-suc, zero-add, 
 use native.Mathlib.Numerals.{one-add}
 use native.Mathlib.Omega.{arith}
 use mathlib.Core.Path.{_≡_, refl, sym, _∙_, ap, ap₂, subst}
-use mathlib.Core.Logic.{_⊎_, inl, inr, ⊎-elim}
+use mathlib.Core.Logic.{_⊎_, ⊎-elim}
 use mathlib.Core.Bool.{Bool, true, false, cond, not, _&&_, _||_, and-true, and-false, or-false, Bool·not-not}
 use lib.Dec.{T, eqb, ltb, lit<, eqb→eq, ltb→lt, lt→ltb}
 use lib.Arith.{lt-one}
@@ -13,7 +13,7 @@ use lib.Count.{ones, ones-cat, trailingZeros, under}
 use lib.Pow.{pow-pos, pow-mono, pow-lt, ones-lt, shl-exact, split, shr-shr}
 use mir.Val.{boolByte}
 use borrow.Author.Tests.{eq-eqb, ne-eqb, lt-ltb, le-ltb}
-use Rattle.machine.specs.Sets.{has, allBelow, anyBelow, countBelow, maskBelow}
+use Rattle.machine.specs.Sets.{has, anyBelow, countBelow, maskBelow}
 use Rattle.machine.proofs.Truth.{and-left, and-right, both, contrary, of-true, of-false, same-test}
 use Rattle.machine.proofs.Sets.{First, le-or-lt, trichotomy, any-at, any-of, none-any, any-failed, any-same, has-zero, has-high, has-above, has-mod, has-top, has-mask, mask-same, mask-of-has, count-same, member, member-below, set-below}
 
@@ -154,7 +154,8 @@ joined n m j false h l =
 pub joined-none : (n m j : ℕ) (on : Bool) → m < 2 ^ n → n ≤ j → m ≡ maskBelow n (λ i. has m i || (on && eqb j i))
 joined-none n m j on h l =
     is-mask n m (λ i. has m i || (on && eqb j i)) h
-    (λ i k. sym (ap (λ (t : Bool). has m i || (on && t)) (ne-eqb j i (λ e. omega arith)) ∙ ap (λ (t : Bool). has m i || t) (and-false on)
+    (λ i k. sym (ap (λ (t : Bool). has m i || (on && t)) (ne-eqb j i (λ e. omega arith)) ∙ ap (λ (t : Bool). has m i || t)
+    (and-false on)
     ∙ or-false (has m i)))
 
 -- A test holds somewhere below n exactly when it does so below m and n, where below n it holds only below m.
@@ -165,7 +166,8 @@ any-cut m n f inside =
     (λ t. let r = any-at m (λ j. f j && ltb j n) t in
     any-of n f (r .0) (ltb→lt (r .0) n (and-right (f (r .0)) (ltb (r .0) n) (r .2))) (and-left (f (r .0)) (ltb (r .0) n) (r .2)))
     (λ t. let r = any-at n f t in
-    any-of m (λ j. f j && ltb j n) (r .0) (inside (r .0) (r .1) (r .2)) (both (f (r .0)) (ltb (r .0) n) (r .2) (lt→ltb (r .0) n (r .1))))
+    any-of m (λ j. f j && ltb j n) (r .0) (inside (r .0) (r .1) (r .2))
+    (both (f (r .0)) (ltb (r .0) n) (r .2) (lt→ltb (r .0) n (r .1))))
 
 -- The members of x below n; `low` is the set of all numbers below n, as far as m.
 pub cut-mask : (m n x low : ℕ) → x < 2 ^ m → low ≡ maskBelow m (λ j. ltb j n) → bitAnd x low ≡ maskBelow n (has x)
@@ -178,14 +180,16 @@ cut-mask m n x low h e =
     both-of j =
         has-and x low j
         ∙ ⊎-elim (λ (l : m ≤ j). rw (has-high x m j h l) refl)
-        (λ (l : j < m). ap (λ (t : Bool). has x j && t) (ap (λ (k : ℕ). has k j) e ∙ has-mask m (λ i. ltb i n) j l)) (le-or-lt m j)
+        (λ (l : j < m). ap (λ (t : Bool). has x j && t) (ap (λ (k : ℕ). has k j) e ∙ has-mask m (λ i. ltb i n) j l))
+        (le-or-lt m j)
 
 -- Whether two sets share a member below n, and whether one has a member below n that the other lacks; `low` is the set of
 -- all numbers below n, as far as m.
 pub shared : (m n a b low : ℕ) → a < 2 ^ m → low ≡ maskBelow m (λ j. ltb j n)
     → not (eqb (bitAnd (bitAnd a b) low) 0) ≡ anyBelow n (λ j. has a j && has b j)
 shared m n a b low h e =
-    ap not (share-test m (bitAnd a b) low (lt-of-le-of-lt (and-le-l a b) h)) ∙ Bool·not-not (anyBelow m (λ j. has (bitAnd a b) j && has low j))
+    ap not (share-test m (bitAnd a b) low (lt-of-le-of-lt (and-le-l a b) h))
+    ∙ Bool·not-not (anyBelow m (λ j. has (bitAnd a b) j && has low j))
     ∙ any-same m (λ j. has (bitAnd a b) j && has low j) (λ j. (has a j && has b j) && ltb j n)
     (λ j l. ap₂ (λ (s t : Bool). s && t) (has-and a b j) (ap (λ (k : ℕ). has k j) e ∙ has-mask m (λ i. ltb i n) j l))
     ∙ any-cut m n (λ j. has a j && has b j) (λ j l t. member-below m a j h (and-left (has a j) (has b j) t))
@@ -203,8 +207,10 @@ pub ones-count : (n m : ℕ) → m < 2 ^ n → ones m ≡ countBelow n (has m)
 unfolding countBelow has ones
 ones-count zero m h = ap ones (lt-one h)
 ones-count (suc n) m h =
-    ap ones (sym (split m n)) ∙ ones-cat n (m / 2 ^ n) (m % 2 ^ n) (mod-lt m (pow-pos n)) ∙ add-comm (ones (m / 2 ^ n)) (ones (m % 2 ^ n))
-    ∙ ap₂ (λ (a b : ℕ). a + b) (ones-count n (m % 2 ^ n) (mod-lt m (pow-pos n)) ∙ count-same n (has (m % 2 ^ n)) (has m) (λ j l. has-mod m n j l))
+    ap ones (sym (split m n)) ∙ ones-cat n (m / 2 ^ n) (m % 2 ^ n) (mod-lt m (pow-pos n)) ∙ add-comm (ones (m / 2 ^ n))
+    (ones (m % 2 ^ n))
+    ∙ ap₂ (λ (a b : ℕ). a + b) (ones-count n (m % 2 ^ n) (mod-lt m (pow-pos n)) ∙ count-same n (has (m % 2 ^ n)) (has m)
+    (λ j l. has-mod m n j l))
     (top (m / 2 ^ n) small)
   where
     small : m / 2 ^ n < 2
@@ -231,7 +237,8 @@ lowest (suc n) m h k = here (m % 2) refl (lowest n (m / 2))
   where
     here : (d : ℕ) → m % 2 ≡ d → (m / 2 < 2 ^ n → 0 < m / 2 → First n (has (m / 2)) (trailingZeros n (m / 2)))
         → First (suc n) (has m) (under d (trailingZeros n (m / 2)))
-    here zero e rest = record { below = omega (arith, r .below); holds = rw (has-half m (trailingZeros n (m / 2))) (r .holds); least = least }
+    here zero e rest =
+        record { below = omega (arith, r .below); holds = rw (has-half m (trailingZeros n (m / 2))) (r .holds); least = least }
       where
         r : First n (has (m / 2)) (trailingZeros n (m / 2))
         r = rest (omega (arith, two-pow-succ n)) (omega arith)

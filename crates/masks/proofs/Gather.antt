@@ -1,9 +1,9 @@
 -- Loops that gather a set with `with`: one turn a place, or one turn a source that names its place. Assumes nothing.
-use Prim.Native.Nat.{ℕ, suc, _+_, _<_, zero-le}
+use Prim.Native.Nat.{ℕ, _+_, _<_, zero-le}
 use native.Mathlib.Numerals.{add-one}
 use native.Mathlib.Omega.{arith}
 use mathlib.Core.Path.{_≡_, refl, sym, _∙_, ap, ap₂}
-use mathlib.Core.Logic.{_⊎_, ⊎-elim}
+use mathlib.Core.Logic.{⊎-elim}
 use mathlib.Core.Bool.{Bool, false, _&&_, _||_, and-true, and-false, or-false}
 use lib.Dec.{eqb, ltb}
 use lib.Pow.{pow-pos}
@@ -39,10 +39,13 @@ module _ (m found next j : ℕ) (on : Bool) (new : next ≡ maskBelow m (λ i. h
       place : (i : ℕ) → ((ltb i j && f i) || (on && eqb j i)) ≡ (ltb i (j + 1) && f i)
       place i =
           ⊎-elim
-          (λ (p : i ≡ j). rw (le-ltb i j (omega arith), lt-ltb i (j + 1) (omega arith), eq-eqb j i (sym p), e, p) (and-true (f j)))
+          (λ (p : i ≡ j). rw (le-ltb i j (omega arith), lt-ltb i (j + 1) (omega arith), eq-eqb j i (sym p), e, p)
+          (and-true (f j)))
           (⊎-elim
-          (λ (h : i < j). rw (lt-ltb i j h, lt-ltb i (j + 1) (omega arith), ne-eqb j i (λ p. omega arith), and-false on) (or-false (f i)))
-          (λ (h : j < i). rw (le-ltb i j (omega arith), le-ltb i (j + 1) (omega arith), ne-eqb j i (λ p. omega arith)) (and-false on)))
+          (λ (h : i < j). rw (lt-ltb i j h, lt-ltb i (j + 1) (omega arith), ne-eqb j i (λ p. omega arith), and-false on)
+          (or-false (f i)))
+          (λ (h : j < i). rw (le-ltb i j (omega arith), le-ltb i (j + 1) (omega arith), ne-eqb j i (λ p. omega arith))
+          (and-false on)))
           (trichotomy i j)
 
   -- the place that source a names joins if the test f holds of a

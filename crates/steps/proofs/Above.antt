@@ -70,7 +70,9 @@ raised-above x j low e =
 raised-same : (x i d low : ℕ) → raised x i low / 2 ^ (suc i + d) ≡ x / 2 ^ (suc i + d)
 unfolding raised
 raised-same x i d low =
-    sym (shr-shr (raised x i low) (suc i) d) ∙ ap (λ (k : ℕ). k / 2 ^ d) (halved (raised x i low) i ∙ ap (λ (k : ℕ). k / 2) (high (x / 2 ^ i / 2 * 2 + 1) i (mod-lt low (pow-pos i))) ∙ half ∙ sym (halved x i))
+    sym (shr-shr (raised x i low) (suc i) d) ∙ ap (λ (k : ℕ). k / 2 ^ d)
+    (halved (raised x i low) i ∙ ap (λ (k : ℕ). k / 2) (high (x / 2 ^ i / 2 * 2 + 1) i (mod-lt low (pow-pos i))) ∙ half
+    ∙ sym (halved x i))
     ∙ shr-shr x (suc i) d
   where
     half : (x / 2 ^ i / 2 * 2 + 1) / 2 ≡ x / 2 ^ i / 2
@@ -119,7 +121,9 @@ module _ (m : ℕ) (f : ℕ → Bool) (x : ℕ) where
       last = first-none m later (none-any m later (λ z h. and-not (ltb x z) (f z) (λ t. none z (ltb→lt x z t) h)))
 
   pub next-cases : Next m f x (nextAbove m f x) ⊎ (((z : ℕ) → x < z → z < m → T (not (f z))) × (nextAbove m f x ≡ 0))
-  next-cases = ⊎-elim (λ (t : T (anyBelow m later)). inl (some t)) (λ (t : T (not (anyBelow m later))). inr (no t, next-none (no t))) (decided (anyBelow m later))
+  next-cases =
+      ⊎-elim (λ (t : T (anyBelow m later)). inl (some t)) (λ (t : T (not (anyBelow m later))). inr (no t, next-none (no t)))
+      (decided (anyBelow m later))
     where
       no : T (not (anyBelow m later)) → (z : ℕ) → x < z → z < m → T (not (f z))
       no t z l u = not-and (ltb x z) (f z) (any-failed m later t z u) (lt→ltb x z l)
@@ -167,7 +171,8 @@ module _ (n : ℕ) (f : ℕ → Bool) (low x : ℕ) where
   search-start ready h k only =
       record {
         small = lt-of-le-of-lt (and-le-l ready (2 ^ n - 1 - x)) h;
-        spare = λ i t. let l = member-below n ready i h (and-left (has ready i) (has (2 ^ n - 1 - x) i) (subst T (has-and ready (2 ^ n - 1 - x) i) t)) in
+        spare = λ i t. let l = member-below n ready i h
+            (and-left (has ready i) (has (2 ^ n - 1 - x) i) (subst T (has-and ready (2 ^ n - 1 - x) i) t)) in
             and-right (has ready i) (not (has x i)) (subst T (left i l) t);
         tried = λ i l s t. refuted (f (raised x i low)) (λ u. contrary (has (bitAnd ready (2 ^ n - 1 - x)) i)
             (subst T (sym (left i l)) (both (has ready i) (not (has x i)) (only i l u) s)) t);
@@ -176,43 +181,50 @@ module _ (n : ℕ) (f : ℕ → Bool) (low x : ℕ) where
       left : (i : ℕ) → i < n → has (bitAnd ready (2 ^ n - 1 - x)) i ≡ (has ready i && not (has x i))
       left i l = has-and ready (2 ^ n - 1 - x) i ∙ ap (λ (t : Bool). has ready i && t) (has-opposite n x i k l)
 
-  -- a turn tries the lowest
-  pub search-turn : (free : ℕ) → Searched n f low x free → 0 < free → let j = trailingZeros n free in
-      T (not (f (raised x j low))) → Searched n f low x (bitAnd free (2 ^ n - 1 - 1 * 2 ^ j % 2 ^ n))
-      × (bitAnd free (2 ^ n - 1 - 1 * 2 ^ j % 2 ^ n) < free)
-  search-turn free s k t = (
-    record {
-      small = lt-of-le-of-lt (and-le-l free others) (s .small);
-      spare = λ i u. s .spare i (and-left (has free i) (has others i) (subst T (has-and free others i) u));
-      tried = λ i l u v. ⊎-elim (λ (w : T (has free i)). again i l u v w) (s .tried i l u) (decided (has free i));
-    },
-    lt-of-le-ne (and-le-l free others) (λ e. contrary (has rest j) (subst (λ (m : ℕ). T (has m j)) (sym e) (r .holds)) gone),
-  )
-    where
-      j : ℕ
-      j = trailingZeros n free
+  -- A turn tries the lowest and leaves the others.
+  module _ (free : ℕ) (small : free < 2 ^ n) (some : 0 < free) where
+    abbrev tried-bit : ℕ
+    tried-bit = trailingZeros n free
 
-      r : First n (has free) j
-      r = lowest n free (s .small) k
+    abbrev others : ℕ
+    others = 2 ^ n - 1 - 1 * 2 ^ tried-bit % 2 ^ n
 
-      others : ℕ
-      others = 2 ^ n - 1 - 1 * 2 ^ j % 2 ^ n
+    found : First n (has free) tried-bit
+    found = lowest n free small some
 
-      rest : ℕ
-      rest = bitAnd free others
+    left : (i : ℕ) → i < n → has (bitAnd free others) i ≡ (has free i && not (eqb tried-bit i))
+    left i l =
+        has-and free others i
+        ∙ ap (λ (t : Bool). has free i && t) (ap (λ (b : ℕ). has (2 ^ n - 1 - b) i) (one-bit n tried-bit (found .below))
+        ∙ has-opposite n (2 ^ tried-bit) i (pow-lt (found .below)) l ∙ ap not (has-power tried-bit i))
 
-      left : (i : ℕ) → i < n → has rest i ≡ (has free i && not (eqb j i))
-      left i l =
-          has-and free others i
-          ∙ ap (λ (t : Bool). has free i && t) (ap (λ (b : ℕ). has (2 ^ n - 1 - b) i) (one-bit n j (r .below)) ∙ has-opposite n (2 ^ j) i (pow-lt (r .below)) l ∙ ap not (has-power j i))
+    pub search-less : bitAnd free others < free
+    search-less =
+        lt-of-le-ne (and-le-l free others)
+        (λ e. contrary (has (bitAnd free others) tried-bit) (subst (λ (m : ℕ). T (has m tried-bit)) (sym e) (found .holds)) gone)
+      where
+        gone : T (not (has (bitAnd free others) tried-bit))
+        gone =
+            of-false (left tried-bit (found .below) ∙ ap (λ (t : Bool). has free tried-bit && not t)
+            (eq-eqb tried-bit tried-bit refl)
+            ∙ and-false (has free tried-bit))
 
-      gone : T (not (has rest j))
-      gone = of-false (left j (r .below) ∙ ap (λ (t : Bool). has free j && not t) (eq-eqb j j refl) ∙ and-false (has free j))
-
-      again : (i : ℕ) → i < n → T (not (has x i)) → T (not (has rest i)) → T (has free i) → T (not (f (raised x i low)))
-      again i l u v w =
-          subst (λ (m : ℕ). T (not (f (raised x m low))))
-          (eqb→eq j i (not-not-elim (eqb j i) (not-and (has free i) (not (eqb j i)) (subst (λ (b : Bool). T (not b)) (left i l) v) w))) t
+    -- `next` is x raised there, and `passed` is what the test says of it
+    pub search-turn : (next : ℕ) (passed : Bool) → next ≡ raised x tried-bit low → passed ≡ f next → passed ≡ false
+        → Searched n f low x free → Searched n f low x (bitAnd free others)
+    search-turn next passed at said failed s =
+        record {
+          small = lt-of-le-of-lt (and-le-l free others) small;
+          spare = λ i u. s .spare i (and-left (has free i) (has others i) (subst T (has-and free others i) u));
+          tried = λ i l u v. ⊎-elim (λ (w : T (has free i)). again i l v w) (s .tried i l u) (decided (has free i));
+        }
+      where
+        again : (i : ℕ) → i < n → T (not (has (bitAnd free others) i)) → T (has free i) → T (not (f (raised x i low)))
+        again i l v w =
+            subst (λ (m : ℕ). T (not (f (raised x m low))))
+            (eqb→eq tried-bit i (not-not-elim (eqb tried-bit i)
+            (not-and (has free i) (not (eqb tried-bit i)) (subst (λ (b : Bool). T (not b)) (left i l) v) w)))
+            (subst (λ (m : ℕ). T (not (f m))) at (of-false (sym said ∙ failed)))
 
 -- A test that keeps holding where the members below one of its members come down to those of low.
 module _ (n : ℕ) (f : ℕ → Bool) (low : ℕ)
@@ -234,12 +246,12 @@ module _ (n : ℕ) (f : ℕ → Bool) (low : ℕ)
   part : (x y : ℕ) → x < y → y < 2 ^ n → Parted n x y
   part x y h k = parted n x y (div-eq-of-lt (lt-trans h k) ∙ sym (div-eq-of-lt k)) h
 
-  pub none-above : (x : ℕ) → ((j : ℕ) → j < n → T (not (has x j)) → T (not (f (raised x j low)))) → nextAbove (2 ^ n) f x ≡ 0
+  none-above : (x : ℕ) → ((j : ℕ) → j < n → T (not (has x j)) → T (not (f (raised x j low)))) → nextAbove (2 ^ n) f x ≡ 0
   none-above x none =
       next-none (2 ^ n) f x (λ z h k. refuted (f z) (λ t. let r = part x z h k in
       contrary (f (raised x (r .bit) low)) (reached x z r k t .0) (none (r .bit) (r .below) (spared x z r))))
 
-  pub found-above : (x j : ℕ) → T (not (has x j)) → T (f (raised x j low)) → raised x j low < 2 ^ n
+  found-above : (x j : ℕ) → T (not (has x j)) → T (f (raised x j low)) → raised x j low < 2 ^ n
       → ((i : ℕ) → i < j → T (not (has x i)) → T (not (f (raised x i low)))) → nextAbove (2 ^ n) f x ≡ raised x j low
   found-above x j s t b least =
       next-some (2 ^ n) f x (raised x j low) (record {
@@ -252,7 +264,8 @@ module _ (n : ℕ) (f : ℕ → Bool) (low : ℕ)
       earlier : (z : ℕ) (r : Parted n x z) → z < raised x j low → z < 2 ^ n → T (f z) → ⊥
       earlier z r k l u =
           ⊎-elim (λ (e : r .bit ≡ j). omega (arith, reached x z r l u .1, ap (λ (i : ℕ). raised x i low) e))
-          (⊎-elim (λ (h : r .bit < j). contrary (f (raised x (r .bit) low)) (reached x z r l u .0) (least (r .bit) h (spared x z r)))
+          (⊎-elim (λ (h : r .bit < j). contrary (f (raised x (r .bit) low)) (reached x z r l u .0)
+          (least (r .bit) h (spared x z r)))
           (λ (h : j < r .bit). omega (arith, raised-below n x z j low r h))) (trichotomy (r .bit) j)
 
   -- the search ends with nothing left to try, or at the lowest bit that passes
@@ -260,9 +273,10 @@ module _ (n : ℕ) (f : ℕ → Bool) (low : ℕ)
   search-end x free s e =
       none-above x (λ j h t. s .tried j h t (of-false (ap (λ (k : ℕ). has k j) e ∙ has-zero j)))
 
-  pub search-found : (x free : ℕ) → Searched n f low x free → 0 < free → let j = trailingZeros n free in T (f (raised x j low))
-      → raised x j low < 2 ^ n → nextAbove (2 ^ n) f x ≡ raised x j low
-  search-found x free s k t b =
+  pub search-found : (x free next : ℕ) (passed : Bool) → Searched n f low x free → 0 < free
+      → next ≡ raised x (trailingZeros n free) low → passed ≡ f next → passed ≡ true → next < 2 ^ n → next ≡ nextAbove (2 ^ n) f x
+  search-found x free next passed s k at said holds below =
       let r = lowest n free (s .small) k in
-      found-above x (trailingZeros n free) (s .spare (trailingZeros n free) (r .holds)) t b
-      (λ i h u. s .tried i (lt-trans h (r .below)) u (r .least i h))
+      let j = trailingZeros n free in
+      at ∙ sym (found-above x j (s .spare j (r .holds)) (subst (λ (m : ℕ). T (f m)) at (of-true (sym said ∙ holds)))
+      (subst (λ (m : ℕ). m < 2 ^ n) at below) (λ i h u. s .tried i (lt-trans h (r .below)) u (r .least i h)))

@@ -87,7 +87,8 @@ module _ (g : Graph) (done step : ℕ) where
           chosen false d s x y = refl
 
       high : (b : ℕ) → 32 ≤ b → has next b ≡ false
-      high b h = parts b ∙ rw (has-high (produced g done) 32 b (produced-lt done) h, has-high (begun g done step) 32 b begun-lt h) refl
+      high b h =
+          parts b ∙ rw (has-high (produced g done) 32 b (produced-lt done) h, has-high (begun g done step) 32 b begun-lt h) refl
 
       inside : (b : ℕ) → T (has next b) → b < c
       inside b t =
@@ -96,7 +97,8 @@ module _ (g : Graph) (done step : ℕ) where
 
       each : (b : ℕ) → b < c → has next b ≡ value b
       each b l =
-          ⊎-elim (λ (h : 32 ≤ b). high b h ∙ rw (has-high values 32 b v h, has-high word 32 b w h) (none (has done (producer g b)) (has step (producer g b))))
+          ⊎-elim (λ (h : 32 ≤ b). high b h ∙ rw (has-high values 32 b v h, has-high word 32 b w h)
+          (none (has done (producer g b)) (has step (producer g b))))
           (λ (h : b < 32). low b h ∙ ap (λ (t : Bool). t && value b) (lt-ltb b c l)) (le-or-lt 32 b)
         where
           none : (d s : Bool) → false ≡ cond d false (s && false)

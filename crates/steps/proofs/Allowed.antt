@@ -1,10 +1,8 @@
 -- A step that the masks of a state allow is a legal one, and the other way round. Assumes nothing.
-use Prim.Native.Nat.{ℕ, zero, suc, min, _+_, _-_, _^_, _≤_, _<_}
-use native.Mathlib.Nat.{add-suc}
+use Prim.Native.Nat.{ℕ, zero, suc, min, _^_, _≤_, _<_}
 use native.Mathlib.Omega.{arith}
 use mathlib.Core.Path.{_≡_, refl, sym, _∙_, ap, subst}
-use mathlib.Core.Bool.{Bool, true, false, cond, not, _&&_, _||_, Bool·not-not}
-use mathlib.Core.List.{List}
+use mathlib.Core.Bool.{Bool, true, false, not, _&&_, _||_, Bool·not-not}
 use lib.Dec.{T, eqb, leb, ltb, leb→le, ltb→lt, lt→ltb}
 use lib.ListN.{length, getD}
 use lib.Pow.{pow-mono}
@@ -69,7 +67,8 @@ module _ (g : Graph) (small : T (sized g)) where
       → within step (among g (λ j. not (has done j)))
       ≡ (ltb step (2 ^ operationCount g) && allBelow (operationCount g) (λ j. not (has step j && has done j)))
   unfolding within
-  fresh step done h = same-test (not (anyBelow 32 stray)) (ltb step (2 ^ n) && allBelow n (λ j. not (has step j && has done j))) to from
+  fresh step done h =
+      same-test (not (anyBelow 32 stray)) (ltb step (2 ^ n) && allBelow n (λ j. not (has step j && has done j))) to from
     where
       n : ℕ
       n = operationCount g
@@ -93,10 +92,13 @@ module _ (g : Graph) (small : T (sized g)) where
       from : T (ltb step (2 ^ n) && allBelow n (λ j. not (has step j && has done j))) → T (not (anyBelow 32 stray))
       from t =
           none-any 32 stray (λ j l. and-not (has step j) (not (has (among g (λ i. not (has done i))) j)) (λ s.
-          let k = member-below n step j (ltb→lt step (2 ^ n) (and-left (ltb step (2 ^ n)) (allBelow n (λ j. not (has step j && has done j))) t)) s in
+          let k = member-below n step j (ltb→lt step (2 ^ n)
+          (and-left (ltb step (2 ^ n)) (allBelow n (λ j. not (has step j && has done j))) t)) s in
           not-not-intro (has (among g (λ i. not (has done i))) j) (subst T (sym (has-among (λ i. not (has done i)) j l))
           (both (ltb j n) (not (has done j)) (lt→ltb j n k)
-          (not-and (has step j) (has done j) (all-at n (λ j. not (has step j && has done j)) (and-right (ltb step (2 ^ n)) (allBelow n (λ j. not (has step j && has done j))) t) j k) s)))))
+          (not-and (has step j) (has done j)
+          (all-at n (λ j. not (has step j && has done j))
+          (and-right (ltb step (2 ^ n)) (allBelow n (λ j. not (has step j && has done j))) t) j k) s)))))
 
   -- the limits
   class-at : (k : ℕ) → k < 8 → getD (classesOf g) k 0 ≡ ofClass g k
@@ -115,7 +117,8 @@ module _ (g : Graph) (small : T (sized g)) where
   unfolding roomy overfull limit byteAt ofClass
   roomy-class done values step k h =
       ap (λ (n : ℕ). leb n (getD (g .limits) k 0))
-      (count-same 32 (λ j. has step j && has (getD (classesOf g) k 0) j) (λ j. (has step j && eqb (class g j) k) && ltb j (operationCount g))
+      (count-same 32 (λ j. has step j && has (getD (classesOf g) k 0) j)
+      (λ j. (has step j && eqb (class g j) k) && ltb j (operationCount g))
       (λ j l. ap (λ (t : Bool). has step j && t) (ap (λ (m : ℕ). has m j) (class-at k h) ∙ has-among (λ i. eqb (class g i) k) j l)
       ∙ and-past (has step j) (ltb j (operationCount g)) (eqb (class g j) k))
       ∙ count-cut 32 (operationCount g) (λ j. has step j && eqb (class g j) k) few-operations)
@@ -136,7 +139,8 @@ module _ (g : Graph) (small : T (sized g)) where
       → allows (g .limits) (classesOf g) (constraintsOf g done values) step ≡ legal g done values step
   unfolding allows constraintsOf legal
   allows-legal done values step h =
-      and-same (and-same (and-same (and-same (ap (λ (t : Bool). ltb 0 step && t) (fresh step done h)) (apart-among step (heldBack g done values)))
+      and-same (and-same (and-same (and-same (ap (λ (t : Bool). ltb 0 step && t) (fresh step done h))
+      (apart-among step (heldBack g done values)))
       (fits-limits done values step)) (apart-among step (excluded g done values))) (within-among step (demanded g done values))
 
   -- the least allowed step above x is the least legal one
@@ -144,7 +148,8 @@ module _ (g : Graph) (small : T (sized g)) where
       → nextAbove (2 ^ 32) (allows (g .limits) (classesOf g) (constraintsOf g done values)) x
       ≡ nextAbove (2 ^ operationCount g) (legal g done values) x
   above-legal done values x =
-      next-same (2 ^ 32) (2 ^ operationCount g) (allows (g .limits) (classesOf g) (constraintsOf g done values)) (legal g done values) x
+      next-same (2 ^ 32) (2 ^ operationCount g) (allows (g .limits) (classesOf g) (constraintsOf g done values))
+      (legal g done values) x
       (pow-mono few-operations) (allows-legal done values) (λ y t. legal-below done values y t)
     where
       legal-below : (done values y : ℕ) → T (legal g done values y) → y < 2 ^ operationCount g

@@ -4,17 +4,17 @@ use Prim.Native.Nat.{ℕ, min, _+_, _-_, _*_, _^_, _/_, _%_, _≤_, _<_}
 use native.Mathlib.Nat.{le-refl, le-trans, add-comm, eq-zero-or-pos, div-self, mod-lt, lt-of-le-of-lt}
 use native.Mathlib.Omega.{arith}
 use mathlib.Core.Path.{_≡_, refl, sym, _∙_, ap, subst}
-use mathlib.Core.Logic.{_⊎_, ⊎-elim}
+use mathlib.Core.Logic.{⊎-elim}
 use mathlib.Core.Bool.{Bool, true, false, cond, not, _&&_, _||_, or-true}
 use mathlib.Core.List.{List}
 use lib.Bits.{bitAnd, bitOr, and-le-l, and-le-r, or-shr}
-use lib.Dec.{T, eqb, ltb, leb, eqb→eq, leb→le, le→leb, lt→ltb}
+use lib.Dec.{T, eqb, ltb, eqb→eq, leb→le, le→leb}
 use lib.ListN.{length, getD}
 use lib.Pow.{pow-pos, high}
 use borrow.Author.Tests.{eq-eqb, lt-ltb, le-ltb}
-use Rattle.machine.specs.Sets.{has, allBelow, anyBelow, countBelow}
+use Rattle.machine.specs.Sets.{has, countBelow}
 use Rattle.machine.proofs.Says.{Says, says-test, says-ltb, says-and}
-use Rattle.machine.proofs.Truth.{and-left, and-right, both, or-cases, not-and, and-not, not-not-elim, not-not-intro, true-of, of-true, contrary}
+use Rattle.machine.proofs.Truth.{and-left, and-right, both, or-cases, not-and, and-not, not-not-elim, not-not-intro, true-of, of-true}
 use Rattle.machine.proofs.Sets.{le-or-lt, all-at, all-of, any-failed, none-any, count-mono, has-zero, has-above, has-mod, set-ext, member-below, set-below}
 use Rattle.masks.proofs.Bits.{has-and, has-or, has-opposite, has-power, has-shift, or-one}
 use Rattle.steps.specs.Masks.{apart, within, roomy, fits, raised, allows}
@@ -53,8 +53,10 @@ pub fits-fewer : (limits classes : List ℕ) (a b : ℕ) → Fewer a b → T (fi
 unfolding fits roomy
 fits-fewer limits classes a b f t =
     all-of (min (length limits) 8) (roomy limits classes a) (λ k h.
-    le→leb (members a k) (getD limits k 0) (le-trans (count-mono 32 (λ j. has a j && has (getD classes k 0) j) (λ j. has b j && has (getD classes k 0) j)
-    (λ j l s. both (has b j) (has (getD classes k 0) j) (f j (and-left (has a j) (has (getD classes k 0) j) s)) (and-right (has a j) (has (getD classes k 0) j) s)))
+    le→leb (members a k) (getD limits k 0)
+    (le-trans (count-mono 32 (λ j. has a j && has (getD classes k 0) j) (λ j. has b j && has (getD classes k 0) j)
+    (λ j l s. both (has b j) (has (getD classes k 0) j) (f j (and-left (has a j) (has (getD classes k 0) j) s))
+    (and-right (has a j) (has (getD classes k 0) j) s)))
     (leb→le (members b k) (getD limits k 0) (all-at (min (length limits) 8) (roomy limits classes b) t k h))))
   where
     members : ℕ → ℕ → ℕ
@@ -117,7 +119,8 @@ record Allowed (limits classes : List ℕ) (c : Constraints) (step : ℕ) : Type
   wanted : T (apart step (c .excluded))
   complied : T (within (c .demanded) step)
 
-says-allows : (limits classes : List ℕ) (c : Constraints) (step : ℕ) → Says (allows limits classes c step) (Allowed limits classes c step)
+says-allows : (limits classes : List ℕ) (c : Constraints) (step : ℕ)
+    → Says (allows limits classes c step) (Allowed limits classes c step)
 unfolding allows
 says-allows limits classes c step =
     let r = says-and (says-and (says-and (says-and (says-and (says-ltb 0 step) (says-test (within step (c .undone))))
@@ -142,12 +145,14 @@ pub allows-closed : (limits classes : List ℕ) (c : Constraints) → c .demande
     → T (allows limits classes c (lowered y j (c .demanded))) × (lowered y j (c .demanded) ≤ y)
 allows-closed limits classes c d y j h l m t = (
   says-allows limits classes c z .from (record {
-    filled = ⊎-elim (λ (e : z ≡ 0). absurd (subst T (ap (λ (k : ℕ). has k j) e ∙ has-zero j) kept)) (λ (k : 0 < z). k) (eq-zero-or-pos z);
+    filled = ⊎-elim (λ (e : z ≡ 0). absurd (subst T (ap (λ (k : ℕ). has k j) e ∙ has-zero j) kept)) (λ (k : 0 < z). k)
+        (eq-zero-or-pos z);
     fresh = within-fewer z y (c .undone) fewer (p .fresh);
     free = apart-fewer z y (c .held) fewer (p .free);
     room = fits-fewer limits classes z y fewer (p .room);
     wanted = apart-fewer z y (c .excluded) fewer (p .wanted);
-    complied = members-within low z (λ i s. subst T (sym (has-lowered y j low i)) (choose (ltb i j) (has low i) (has y i) s (f i s)));
+    complied = members-within low z
+        (λ i s. subst T (sym (has-lowered y j low i)) (choose (ltb i j) (has low i) (has y i) s (f i s)));
   }),
   fewer-le 32 z y (lowered-lt 32 y j low h f) fewer,
 )
@@ -198,7 +203,8 @@ allows-ready limits classes c b d step i h t =
   where
     outside : (a m : ℕ) → m < 2 ^ 32 → T (has a i) → T (not (has m i)) → T (has (bitAnd a (2 ^ 32 - 1 - m)) i)
     outside a m l s u =
-        subst T (sym (has-and a (2 ^ 32 - 1 - m) i ∙ ap (λ (k : Bool). has a i && k) (has-opposite 32 m i l h))) (both (has a i) (not (has m i)) s u)
+        subst T (sym (has-and a (2 ^ 32 - 1 - m) i ∙ ap (λ (k : Bool). has a i && k) (has-opposite 32 m i l h)))
+        (both (has a i) (not (has m i)) s u)
 
     z : ℕ
     z = raised step i (c .demanded)
@@ -214,20 +220,24 @@ module _ (begun : ℕ) where
   pub outcome-closed : (y j : ℕ) → y < 2 ^ 32 → j < 32 → T (has y j) → T (within y begun)
       → T (within (lowered y j 0) begun) × (lowered y j 0 ≤ y)
   outcome-closed y j h l m t =
-      let f = lowered-fewer y j 0 none in (within-fewer (lowered y j 0) y begun f t, fewer-le 32 (lowered y j 0) y (lowered-lt 32 y j 0 h none) f)
+      let f = lowered-fewer y j 0 none in
+      (within-fewer (lowered y j 0) y begun f t, fewer-le 32 (lowered y j 0) y (lowered-lt 32 y j 0 h none) f)
     where
       none : Fewer 0 y
       none i s = absurd (subst T (has-zero i) s)
 
   -- an outcome that is raised at a control begun is one again
   pub outcome-raised : (word j : ℕ) → T (has begun j) → T (within (raised (bitAnd word begun) j 0) begun)
-  outcome-raised word j m = members-within (raised (bitAnd word begun) j 0) begun (λ i t. choose i (ltb i j) (subst T (has-raised (bitAnd word begun) j 0 i) t))
+  outcome-raised word j m =
+      members-within (raised (bitAnd word begun) j 0) begun
+      (λ i t. choose i (ltb i j) (subst T (has-raised (bitAnd word begun) j 0 i) t))
     where
       choose : (i : ℕ) (b : Bool) → T (cond b (has 0 i) (has (bitAnd word begun) i || eqb j i)) → T (has begun i)
       choose i true t = absurd (subst T (has-zero i) t)
       choose i false t =
           ⊎-elim (λ (s : T (has (bitAnd word begun) i)). and-right (has word i) (has begun i) (subst T (has-and word begun i) s))
-          (λ (s : T (eqb j i)). subst (λ (k : ℕ). T (has begun k)) (eqb→eq j i s) m) (or-cases (has (bitAnd word begun) i) (eqb j i) t)
+          (λ (s : T (eqb j i)). subst (λ (k : ℕ). T (has begun k)) (eqb→eq j i s) m)
+          (or-cases (has (bitAnd word begun) i) (eqb j i) t)
 
   pub outcome-ready : (x i : ℕ) → i < 32 → T (within (raised x i 0) begun) → T (has begun i)
   outcome-ready x i h t = within-at (raised x i 0) begun i h t (raised-member x i 0)

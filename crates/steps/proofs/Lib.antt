@@ -6,3 +6,4 @@ pub mod Allowed
 pub mod After
 pub mod Above
 pub mod Fewer
+pub mod Content

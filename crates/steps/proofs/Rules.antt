@@ -1,13 +1,13 @@
--- The masks of a state are document 01's constraints, and a step that they allow is a legal one. Assumes nothing.
+-- The masks that the code builds are those of the constraints, and its tests of a step are those of the masks. Assumes nothing.
 use Prim.Native.Nat.{ℕ, _-_, _^_, _<_}
 use native.Mathlib.Nat.{lt-of-le-of-lt, eq-zero-or-pos}
 use native.Mathlib.Omega.{arith}
-use mathlib.Core.Path.{_≡_, sym, _∙_, ap, ap₂, subst}
+use mathlib.Core.Path.{_≡_, sym, _∙_, ap, ap₂}
 use mathlib.Core.Logic.{⊎-elim}
 use mathlib.Core.Bool.{Bool, not, _&&_}
 use mathlib.Core.List.{List}
 use lib.Bits.{bitAnd, and-le-l}
-use lib.Dec.{T, eqb, ltb, eqb→eq}
+use lib.Dec.{eqb, ltb, eqb→eq}
 use borrow.Author.Tests.{eq-eqb, ne-eqb, lt-ltb, le-ltb}
 use Rattle.machine.specs.Sets.{has, anyBelow, maskBelow}
 use Rattle.machine.proofs.Sets.{any-same, has-mask, mask-lt}
@@ -38,7 +38,8 @@ module _ (g : Graph) (all : ℕ) (whole : all ≡ maskBelow 32 (λ j. ltb j (ope
   unfolding heldBack waiting
   held-mask done values held e =
       in-among held (heldBack g done values)
-      (λ j h. ap (λ (k : ℕ). has k j) e ∙ has-mask 32 (λ i. anyBelow (arcCount g) (λ a. waiting g done values a && eqb (target g a) i)) j h
+      (λ j h. ap (λ (k : ℕ). has k j) e
+      ∙ has-mask 32 (λ i. anyBelow (arcCount g) (λ a. waiting g done values a && eqb (target g a) i)) j h
       ∙ any-same (arcCount g) (λ a. waiting g done values a && eqb (target g a) j)
       (λ a. eqb (target g a) j && not (void g done values a) && not (has done (source g a)))
       (λ a l. sym (and-turn (eqb (target g a) j) (not (void g done values a)) (not (has done (source g a))))))
@@ -49,10 +50,12 @@ module _ (g : Graph) (all : ℕ) (whole : all ≡ maskBelow 32 (λ j. ltb j (ope
   unfolding demanded demanding
   demanded-mask done values found e =
       in-among found (demanded g done values)
-      (λ j h. ap (λ (k : ℕ). has k j) e ∙ has-mask 32 (λ i. anyBelow (arcCount g) (λ a. demanding g done a && eqb (target g a) i)) j h
+      (λ j h. ap (λ (k : ℕ). has k j) e
+      ∙ has-mask 32 (λ i. anyBelow (arcCount g) (λ a. demanding g done a && eqb (target g a) i)) j h
       ∙ any-same (arcCount g) (λ a. demanding g done a && eqb (target g a) j)
       (λ a. eqb (kind g a) 1 && eqb (target g a) j && has done (source g a) && not (has done j))
-      (λ a l. sym (and-swap (eqb (kind g a) 1) (eqb (target g a) j) (has done (source g a)) (not (has done j)) (not (has done (target g a)))
+      (λ a l. sym (and-swap (eqb (kind g a) 1) (eqb (target g a) j) (has done (source g a)) (not (has done j))
+      (not (has done (target g a)))
       (λ t. ap (λ (k : ℕ). not (has done k)) (sym (eqb→eq (target g a) j t))))))
 
 -- The tests of a step, as the machine makes them.
@@ -61,13 +64,16 @@ tested c step =
     not (eqb step 0) && eqb (bitAnd step (2 ^ 32 - 1 - c .undone)) 0 && eqb (bitAnd step (c .held)) 0
     && eqb (bitAnd step (c .excluded)) 0 && eqb (bitAnd (c .demanded) (2 ^ 32 - 1 - step)) 0
 
-pub allows-tested : (limits classes : List ℕ) (c : Constraints) (step : ℕ) → step < 2 ^ 32 → c .undone < 2 ^ 32 → c .demanded < 2 ^ 32
+pub allows-tested : (limits classes : List ℕ) (c : Constraints) (step : ℕ) → step < 2 ^ 32 → c .undone < 2 ^ 32
+    → c .demanded < 2 ^ 32
     → allows limits classes c step ≡ (tested c step && fits limits classes step)
 unfolding allows tested within apart
 allows-tested limits classes c step h u d =
-    and-last (ltb 0 step) (within step (c .undone)) (apart step (c .held)) (fits limits classes step) (apart step (c .excluded)) (within (c .demanded) step)
+    and-last (ltb 0 step) (within step (c .undone)) (apart step (c .held)) (fits limits classes step)
+    (apart step (c .excluded)) (within (c .demanded) step)
     ∙ ap (λ (t : Bool). t && fits limits classes step)
-    (and-same (and-same (and-same (and-same filled (sym (lack-test 32 step (c .undone) h u))) (sym (share-test 32 step (c .held) h)))
+    (and-same (and-same (and-same (and-same filled (sym (lack-test 32 step (c .undone) h u)))
+    (sym (share-test 32 step (c .held) h)))
     (sym (share-test 32 step (c .excluded) h))) (sym (lack-test 32 (c .demanded) step d h)))
   where
     filled : ltb 0 step ≡ not (eqb step 0)

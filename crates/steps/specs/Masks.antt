@@ -21,6 +21,7 @@ waiting g done values a = not (void g done values a) && not (has done (source g 
 unfoldable pub demanding : Graph → ℕ → ℕ → Bool
 demanding g done a = eqb (kind g a) 1 && has done (source g a) && not (has done (target g a))
 
+-- what the constraints say of the operations in a state
 unfoldable pub constraintsOf : Graph → ℕ → ℕ → Constraints
 constraintsOf g done values =
     record {

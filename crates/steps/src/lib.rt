@@ -2,15 +2,14 @@
 // A graph comes as the bytes of its parts, and a set of operations or of controls as a mask.
 ghost use mathlib.Core.Path.{_≡_};
 ghost use mathlib.Core.Bool.{not, _&&_, _||_};
-ghost use mathlib.Core.List.{List};
-ghost use Prim.Native.Nat.{ℕ, min, _+_, _*_, _^_, _/_, _%_, _<_};
+ghost use Prim.Native.Nat.{ℕ, min, _+_, _*_, _^_, _/_, _<_};
 ghost use lib.Bits.{bitAnd};
 ghost use lib.Dec.{eqb};
-ghost use lib.ListN.{length};
+ghost use lib.ListN.{length, getD};
 ghost use Rattle.machine.specs.Sets.{has};
-ghost use Rattle.meaning.specs.Graph.{Graph, arcCount, class, operationCount, source, target, kind};
+ghost use Rattle.meaning.specs.Graph.{Graph, class, source, target};
 ghost use Rattle.meaning.specs.Steps.{lost, excluded, void, complete, legal, after};
-ghost use Rattle.steps.specs.Parts.{graphOf, sized};
+ghost use Rattle.steps.specs.Parts.{graphOf, withControls, withOperations, withArcs, withPaths, withRules, sized};
 ghost use Rattle.steps.specs.Masks.{among, produced, raised, waiting, demanding, constraintsOf, ofClass, classesOf, roomy, within, fits, allows, nextAbove, begun};
 
 // What the constraints say of the operations in one state: those not done, those that a dependency holds back, those
@@ -24,7 +23,7 @@ pub struct Constraints {
 
 // The controls whose operation is in the set: of the operations done, the controls resolved.
 pub fn produced(controls: &[u8], set: u32) -> u32
-    ensures { λ r. ⌜ ((limits operations arcs : List ℕ) → r ≡ produced (graphOf limits operations (now (controls .entry)) arcs) set) ⌝ }
+    ensures { λ r. ⌜ withControls (now (controls .entry)) (λ g. r ≡ produced g set) ⌝ }
 {
     let mut found = 0;
     let mut b = 0;
@@ -44,7 +43,7 @@ fn lost(resolved: u32, values: u32, positive: u8, negative: u8) -> bool
 
 // The operations that are excluded.
 fn excluded(operations: &[u8], resolved: u32, values: u32) -> u32
-    ensures { λ r. ⌜ ((limits controls arcs : List ℕ) (done : ℕ) → let g = graphOf limits (now (operations .entry)) controls arcs in resolved ≡ produced g done → r ≡ among g (excluded g done values)) ⌝ }
+    ensures { λ r. ⌜ withOperations (now (operations .entry)) (λ g. (done : ℕ) → resolved ≡ produced g done → r ≡ among g (excluded g done values)) ⌝ }
 {
     let mut found = 0;
     let mut j = 0;
@@ -64,7 +63,7 @@ fn excluded(operations: &[u8], resolved: u32, values: u32) -> u32
 // Operation j is done or excluded.
 fn settled(operations: &[u8], j: usize, done: u32, resolved: u32, values: u32) -> bool
     requires { ⌜ j < length (now operations) / 3 ⌝ }
-    ensures { λ r. ⌜ ((limits controls arcs : List ℕ) → let g = graphOf limits (now (operations .entry)) controls arcs in resolved ≡ produced g done → r ≡ (has done j || excluded g done values j)) ⌝ }
+    ensures { λ r. ⌜ withOperations (now (operations .entry)) (λ g. resolved ≡ produced g done → r ≡ (has done j || excluded g done values j)) ⌝ }
 {
     masks::has(done, j)
         | lost(
@@ -77,7 +76,7 @@ fn settled(operations: &[u8], j: usize, done: u32, resolved: u32, values: u32) -
 
 // Every operation is done or excluded.
 pub fn complete(operations: &[u8], controls: &[u8], done: u32, values: u32) -> bool
-    ensures { λ r. ⌜ ((limits arcs : List ℕ) → r ≡ complete (graphOf limits (now (operations .entry)) (now (controls .entry)) arcs) done values) ⌝ }
+    ensures { λ r. ⌜ withPaths (now (operations .entry)) (now (controls .entry)) (λ g. r ≡ complete g done values) ⌝ }
 {
     let resolved = produced(controls, done);
     let mut j = 0;
@@ -93,7 +92,7 @@ pub fn complete(operations: &[u8], controls: &[u8], done: u32, values: u32) -> b
 // Arc a holds its target back: it is not void and its source is not done.
 fn waits(arcs: &[u8], a: usize, done: u32, resolved: u32, values: u32) -> bool
     requires { ⌜ a < length (now arcs) / 5 ⌝ }
-    ensures { λ r. ⌜ ((limits operations controls : List ℕ) → let g = graphOf limits operations controls (now (arcs .entry)) in resolved ≡ produced g done → r ≡ waiting g done values a) ⌝ }
+    ensures { λ r. ⌜ withArcs (now (arcs .entry)) (λ g. resolved ≡ produced g done → r ≡ waiting g done values a) ⌝ }
 {
     !lost(resolved, values, arcs[5 * a + 3], arcs[5 * a + 4])
         & !masks::has(done, arcs[5 * a] as usize)
@@ -102,7 +101,7 @@ fn waits(arcs: &[u8], a: usize, done: u32, resolved: u32, values: u32) -> bool
 // Arc a demands its target: it is a follow arc whose source is done and whose target is not.
 fn demands(arcs: &[u8], a: usize, done: u32) -> bool
     requires { ⌜ a < length (now arcs) / 5 ⌝ }
-    ensures { λ r. ⌜ ((limits operations controls : List ℕ) → let g = graphOf limits operations controls (now (arcs .entry)) in r ≡ demanding g done a) ⌝ }
+    ensures { λ r. ⌜ withArcs (now (arcs .entry)) (λ g. r ≡ demanding g done a) ⌝ }
 {
     let follow = arcs[5 * a + 2] == 1;
     follow & masks::has(done, arcs[5 * a] as usize) & !masks::has(done, arcs[5 * a + 1] as usize)
@@ -116,7 +115,7 @@ pub fn constraints_of(
     done: u32,
     values: u32,
 ) -> Constraints
-    ensures { λ r. ⌜ ((limits : List ℕ) → r ≡ constraintsOf (graphOf limits (now (operations .entry)) (now (controls .entry)) (now (arcs .entry))) done values) ⌝ }
+    ensures { λ r. ⌜ withRules (now (operations .entry)) (now (controls .entry)) (now (arcs .entry)) (λ g. r ≡ constraintsOf g done values) ⌝ }
 {
     let all = masks::below(operations.len() / 3);
     let resolved = produced(controls, done);
@@ -138,14 +137,22 @@ pub fn constraints_of(
     }
 }
 
+// Operation j is of the class.
+fn belongs(operations: &[u8], j: usize, class: u8) -> bool
+    requires { ⌜ j < length (now operations) / 3 ⌝ }
+    ensures { λ r. ⌜ r ≡ eqb (getD (now (operations .entry)) (3 * j) 0) «class» ⌝ }
+{
+    operations[3 * j] == class
+}
+
 // The operations of one class.
 fn of_class(operations: &[u8], class: u8) -> u32
-    ensures { λ r. ⌜ ((limits controls arcs : List ℕ) → r ≡ ofClass (graphOf limits (now (operations .entry)) controls arcs) «class») ⌝ }
+    ensures { λ r. ⌜ withOperations (now (operations .entry)) (λ g. r ≡ ofClass g «class») ⌝ }
 {
     let mut found = 0;
     let mut j = 0;
     while j < operations.len() / 3 {
-        found = masks::with(found, j, operations[3 * j] == class);
+        found = masks::with(found, j, belongs(operations, j, class));
         j += 1;
     }
     found
@@ -153,7 +160,7 @@ fn of_class(operations: &[u8], class: u8) -> u32
 
 // The operations of each class, once for a graph.
 pub fn classes(operations: &[u8]) -> [u32; 8]
-    ensures { λ r. ⌜ ((limits controls arcs : List ℕ) → r ≡ classesOf (graphOf limits (now (operations .entry)) controls arcs)) ⌝ }
+    ensures { λ r. ⌜ withOperations (now (operations .entry)) (λ g. r ≡ classesOf g) ⌝ }
 {
     [
         of_class(operations, 0),
@@ -183,7 +190,7 @@ fn roomy(limits: &[u8], classes: &[u32; 8], step: u32, k: usize) -> bool
 }
 
 // No class has more members in the step than its limit.
-pub fn fits(limits: &[u8], classes: &[u32; 8], step: u32) -> bool
+fn fits(limits: &[u8], classes: &[u32; 8], step: u32) -> bool
     ensures { λ r. ⌜ r ≡ fits (now (limits .entry)) (now (classes .entry)) step ⌝ }
 {
     let n = first_eight(limits.len());
@@ -198,7 +205,7 @@ pub fn fits(limits: &[u8], classes: &[u32; 8], step: u32) -> bool
 }
 
 // The step is legal, by the masks of the state and of the classes. The limits come last: the other tests are cheap.
-pub fn allows(limits: &[u8], classes: &[u32; 8], c: Constraints, step: u32) -> bool
+fn allows(limits: &[u8], classes: &[u32; 8], c: Constraints, step: u32) -> bool
     ensures { λ r. ⌜ r ≡ allows (now (limits .entry)) (now (classes .entry)) c step ⌝ }
 {
     let fresh = (step != 0) & (step & !c.undone == 0);
@@ -235,21 +242,21 @@ pub fn legal(
 
 // The operations done after a step: what is done stays done.
 pub fn done_after(operations: &[u8], done: u32, step: u32) -> u32
-    ensures { λ r. ⌜ ((limits controls arcs : List ℕ) (values word : ℕ) → r ≡ after (graphOf limits (now (operations .entry)) controls arcs) done values step word .done) ⌝ }
+    ensures { λ r. ⌜ withOperations (now (operations .entry)) (λ g. (values word : ℕ) → r ≡ after g done values step word .done) ⌝ }
 {
     (done | step) & masks::below(operations.len() / 3)
 }
 
 // The controls that a step resolves.
 pub fn begun(controls: &[u8], done: u32, step: u32) -> u32
-    ensures { λ r. ⌜ ((limits operations arcs : List ℕ) → r ≡ begun (graphOf limits operations (now (controls .entry)) arcs) done step) ⌝ }
+    ensures { λ r. ⌜ withControls (now (controls .entry)) (λ g. r ≡ begun g done step) ⌝ }
 {
     produced(controls, step) & !produced(controls, done)
 }
 
 // The values after a step whose controls fall as the word says: a value stays, and every other control has none.
 pub fn values_after(controls: &[u8], done: u32, values: u32, step: u32, word: u32) -> u32
-    ensures { λ r. ⌜ ((limits operations arcs : List ℕ) → r ≡ after (graphOf limits operations (now (controls .entry)) arcs) done values step word .values) ⌝ }
+    ensures { λ r. ⌜ withControls (now (controls .entry)) (λ g. r ≡ after g done values step word .values) ⌝ }
 {
     produced(controls, done) & values | begun(controls, done, step) & word
 }

@@ -28,7 +28,9 @@ returns c =
     low m n e = omega (arith, div-lt-iff-lt-mul {x = m} {y = 1} (pow-pos n) .0 (omega arith))
 
 returns-2 : tie.Need-returns-2
-returns-2 c = sym (lt-ltb (c .before .args .m) (2 ^ c .before .args .n) (lt-of-lt-of-le (c .before .fits .m .fits) (pow-mono (c .if1 .left))))
+returns-2 c =
+    sym (lt-ltb (c .before .args .m) (2 ^ c .before .args .n)
+    (lt-of-lt-of-le (c .before .fits .m .fits) (pow-mono (c .if1 .left))))
 
 pub fits-spec : {M : Type 1} → statement M
 fits-spec = tie.close (tie.spec cast-result shr-result returns returns-2)

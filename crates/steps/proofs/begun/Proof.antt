@@ -11,7 +11,8 @@ use Rattle.steps.proofs.begun.Tie as tie
 returns : tie.Need-returns
 returns c limits operations arcs =
     let a = c .before .before .before .args in
-    ap₂ (λ (s d : ℕ). bitAnd s (2 ^ 32 - 1 - d)) (c .before .produced .ensures limits operations arcs) (c .produced2 .ensures limits operations arcs)
+    ap₂ (λ (s d : ℕ). bitAnd s (2 ^ 32 - 1 - d)) (c .before .produced .ensures limits operations arcs)
+    (c .produced2 .ensures limits operations arcs)
     ∙ begun-mask (graphOf limits operations (a .controls .now) arcs) (a .done) (a .step)
 
 pub begun-spec : {M : Type 1} → statement M

@@ -29,8 +29,11 @@ abbrev μ-loop : tie.MeasureT-loop
 
 loop-holds : tie.Need-loop-holds Inv-loop μ-loop
 loop-holds c =
-    let a = c .before .before .before .args in
-    (omega arith, λ limits arcs. scan-start (finished (graphOf limits (a .operations .now) (a .controls .now) arcs) (a .done) (a .values)))
+    let a = c .before .before .before .args in (
+      omega arith,
+      λ limits arcs. scan-start
+          (finished (graphOf limits (a .operations .now) (a .controls .now) arcs) (a .done) (a .values)),
+    )
 
 returns : tie.Need-returns Inv-loop μ-loop
 unfolding complete operationCount operationBytes
@@ -38,8 +41,10 @@ returns c limits arcs =
     let a = c .before .before .before .before .before .before .before .args in
     let g = graphOf limits (a .operations .now) (a .controls .now) arcs in
     sym (scan-stop (c .before .before .before .loop .j) (finished g (a .done) (a .values)) (c .before .settled .result)
-    (c .before .settled .ensures limits (a .controls .now) arcs (c .before .before .before .before .produced .ensures limits (a .operations .now) arcs))
-    (length (a .operations .now) / 3) (c .before .before .loop-test .taken) (not-true (c .before .settled .result) (c .if1 .taken)))
+    (c .before .settled .ensures limits (a .controls .now) arcs
+    (c .before .before .before .before .produced .ensures limits (a .operations .now) arcs))
+    (length (a .operations .now) / 3) (c .before .before .loop-test .taken)
+    (not-true (c .before .settled .result) (c .if1 .taken)))
 
 loop-again : tie.Need-loop-again Inv-loop μ-loop
 loop-again c = (
@@ -47,7 +52,8 @@ loop-again c = (
   λ limits arcs. let a = c .before .before .before .before .before .before .before .args in
       let g = graphOf limits (a .operations .now) (a .controls .now) arcs in
       scan-turn (c .before .before .before .loop .j) (finished g (a .done) (a .values)) (c .before .settled .result)
-      (c .before .settled .ensures limits (a .controls .now) arcs (c .before .before .before .before .produced .ensures limits (a .operations .now) arcs))
+      (c .before .settled .ensures limits (a .controls .now) arcs
+      (c .before .before .before .before .produced .ensures limits (a .operations .now) arcs))
       (c .before .before .before .loop .inv .1 limits arcs) (not-false (c .before .settled .result) (c .if1 .left)),
 )
 

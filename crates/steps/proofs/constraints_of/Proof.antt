@@ -3,14 +3,14 @@
 use Prim.Native.Nat.{ℕ, _+_, _-_, _*_, _/_, _≤_}
 use native.Mathlib.Omega.{arith}
 use mathlib.Core.Path.{_≡_, refl, _∙_, ap}
-use mathlib.Core.Bool.{Bool, _&&_}
+use mathlib.Core.Bool.{_&&_}
 use mathlib.Core.List.{List}
 use borrow.Author.Needs.{needs}
 use lib.Dec.{eqb}
 use lib.ListN.{length}
 use Rattle.machine.specs.Sets.{anyBelow, maskBelow}
 use Rattle.masks.proofs.Gather.{spread-start, spread-turn}
-use Rattle.meaning.specs.Graph.{Graph, operationCount, operationBytes, arcCount, arcBytes, target, byteAt}
+use Rattle.meaning.specs.Graph.{operationCount, operationBytes, arcCount, arcBytes, target, byteAt}
 use Rattle.steps.specs.Parts.{graphOf}
 use Rattle.steps.specs.Masks.{waiting, demanding, constraintsOf}
 use Rattle.steps.proofs.Rules.{undone-mask, held-mask, demanded-mask}
@@ -48,9 +48,11 @@ loop-again c =
     let p = c .before .before .before .before .before .before .before .before .produced in (
       omega arith,
       λ limits. let g = graphOf limits (s .operations .now) (s .controls .now) (s .arcs .now) in (
-        spread-turn 32 (l .held) (c .before .before .with .result) (target g (l .a)) (c .before .before .before .waits .result) (c .before .before .with .ensures)
+        spread-turn 32 (l .held) (c .before .before .with .result) (target g (l .a))
+            (c .before .before .before .waits .result) (c .before .before .with .ensures)
             (waiting g (s .done) (s .values)) (target g) (l .a) (l .inv .1 limits .0)
-            (c .before .before .before .waits .ensures limits (s .operations .now) (s .controls .now) (p .ensures limits (s .operations .now) (s .arcs .now))) refl,
+            (c .before .before .before .waits .ensures limits (s .operations .now) (s .controls .now)
+            (p .ensures limits (s .operations .now) (s .arcs .now))) refl,
         spread-turn 32 (l .demanded) (c .with2 .result) (target g (l .a)) (c .before .demands .result) (c .with2 .ensures)
             (demanding g (s .done)) (target g) (l .a) (l .inv .1 limits .1)
             (c .before .demands .ensures limits (s .operations .now) (s .controls .now)) refl,
@@ -67,12 +69,15 @@ returns c limits =
     let e = c .before .before .before .produced .ensures limits (s .operations .now) (s .arcs .now) in
     let all : l .a ≡ length (s .arcs .now) / 5 = omega arith in
     λ i. record {
-      undone = undone-mask g (b .result) (b .ensures) (s .done) (c .before .before .before .before .before .before .before .before .fits .done .fits) i;
+      undone = undone-mask g (b .result) (b .ensures) (s .done)
+          (c .before .before .before .before .before .before .before .before .fits .done .fits) i;
       held = held-mask g (b .result) (b .ensures) (s .done) (s .values) (l .held)
-          (l .inv .1 limits .0 ∙ ap (λ (k : ℕ). maskBelow 32 (λ i. anyBelow k (λ b. waiting g (s .done) (s .values) b && eqb (target g b) i))) all) i;
+          (l .inv .1 limits .0 ∙ ap (λ (k : ℕ). maskBelow 32
+          (λ i. anyBelow k (λ b. waiting g (s .done) (s .values) b && eqb (target g b) i))) all) i;
       excluded = c .before .before .excluded .ensures limits (s .controls .now) (s .arcs .now) (s .done) e i;
       demanded = demanded-mask g (b .result) (b .ensures) (s .done) (s .values) (l .demanded)
-          (l .inv .1 limits .1 ∙ ap (λ (k : ℕ). maskBelow 32 (λ i. anyBelow k (λ b. demanding g (s .done) b && eqb (target g b) i))) all) i;
+          (l .inv .1 limits .1 ∙ ap (λ (k : ℕ). maskBelow 32
+          (λ i. anyBelow k (λ b. demanding g (s .done) b && eqb (target g b) i))) all) i;
     }
 
 pub constraints-of-spec : {M : Type 1} → statement M

@@ -21,7 +21,8 @@ returns : tie.Need-returns
 unfolding demanding kind source target arcBytes byteAt
 returns c limits operations controls =
     let a = c .before .before .before .before .before .before .args in
-    ap₂ (λ (s t : Bool). (eqb (getD (a .arcs .now) (5 * a .a + 2) 0) 1 && s) && not t) (c .before .before .has .ensures) (c .has2 .ensures)
+    ap₂ (λ (s t : Bool). (eqb (getD (a .arcs .now) (5 * a .a + 2) 0) 1 && s) && not t) (c .before .before .has .ensures)
+    (c .has2 .ensures)
 
 pub demands-spec : {M : Type 1} → statement M
 demands-spec =

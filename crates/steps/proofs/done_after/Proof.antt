@@ -11,7 +11,8 @@ unfolding operationCount operationBytes
 returns c limits controls arcs values word =
     let a = c .before .before .args in
     let f = c .before .before .fits in
-    done-mask (graphOf limits (a .operations .now) controls arcs) (a .done) values (a .step) word (c .below .result) (f .done .fits) (f .step .fits)
+    done-mask (graphOf limits (a .operations .now) controls arcs) (a .done) values (a .step) word (c .below .result)
+    (f .done .fits) (f .step .fits)
     (c .below .ensures)
 
 pub done-after-spec : {M : Type 1} → statement M

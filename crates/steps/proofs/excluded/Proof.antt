@@ -29,7 +29,8 @@ loop-holds : tie.Need-loop-holds Inv-loop μ-loop
 loop-holds c =
     let a = c .before .args in (
       search needs,
-      λ limits controls arcs done e. gather-start 32 (excluded (graphOf limits (a .operations .now) controls arcs) done (a .values)),
+      λ limits controls arcs done e. gather-start 32
+          (excluded (graphOf limits (a .operations .now) controls arcs) done (a .values)),
     )
 
 mul-lost : tie.Need-mul-lost Inv-loop μ-loop
@@ -69,7 +70,8 @@ loop-again c =
     let a = c .before .before .before .before .before .before .before .args in (
       omega arith,
       λ limits controls arcs done e. let g = graphOf limits (a .operations .now) controls arcs in
-          gather-turn 32 (s .found) (c .with .result) (s .j) (c .before .lost .result) (c .with .ensures) (excluded g done (a .values))
+          gather-turn 32 (s .found) (c .with .result) (s .j) (c .before .lost .result) (c .with .ensures)
+          (excluded g done (a .values))
           (s .inv .1 limits controls arcs done e) (c .before .lost .ensures g done e),
     )
 

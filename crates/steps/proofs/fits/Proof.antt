@@ -31,8 +31,10 @@ returns : tie.Need-returns Inv-loop μ-loop
 unfolding fits
 returns c =
     let a = c .before .before .before .before .before .before .args in
-    sym (scan-stop (c .before .before .before .loop .k) (roomy (a .limits .now) (a .classes .now) (a .step)) (c .before .roomy .result)
-    (c .before .roomy .ensures) (min (length (a .limits .now)) 8) (omega arith) (not-true (c .before .roomy .result) (c .if1 .taken)))
+    sym (scan-stop (c .before .before .before .loop .k) (roomy (a .limits .now) (a .classes .now) (a .step))
+    (c .before .roomy .result)
+    (c .before .roomy .ensures) (min (length (a .limits .now)) 8) (omega arith)
+    (not-true (c .before .roomy .result) (c .if1 .taken)))
 
 loop-less : tie.Need-loop-less Inv-loop μ-loop
 loop-less c = omega arith
@@ -41,8 +43,10 @@ loop-again : tie.Need-loop-again Inv-loop μ-loop
 loop-again c =
     let a = c .before .before .before .before .before .before .args in (
       omega arith,
-      scan-turn (c .before .before .before .loop .k) (roomy (a .limits .now) (a .classes .now) (a .step)) (c .before .roomy .result)
-          (c .before .roomy .ensures) (c .before .before .before .loop .inv .1) (not-false (c .before .roomy .result) (c .if1 .left)),
+      scan-turn (c .before .before .before .loop .k) (roomy (a .limits .now) (a .classes .now) (a .step))
+          (c .before .roomy .result)
+          (c .before .roomy .ensures) (c .before .before .before .loop .inv .1)
+          (not-false (c .before .roomy .result) (c .if1 .left)),
     )
 
 returns-2 : tie.Need-returns-2 Inv-loop μ-loop

@@ -1,17 +1,16 @@
 -- `steps::legal` meets its contract. Assumes nothing.
-use Prim.Native.Nat.{ℕ, _/_, _≤_, _<_, _^_}
+use Prim.Native.Nat.{ℕ, _/_, _≤_, _<_}
 use mathlib.Core.Path.{_≡_, refl, sym, _∙_, ap, ap₂}
 use mathlib.Core.Bool.{Bool, true, false, _&&_}
 use mathlib.Core.List.{List}
 use borrow.Author.Needs.{needs}
 use borrow.Author.Tests.{le-leb, lt-leb}
-use lib.Dec.{leb}
 use lib.ListN.{length}
 use Rattle.machine.proofs.Truth.{of-true}
-use Rattle.meaning.specs.Graph.{Graph, operationCount, operationBytes, classCount, mostOperations, mostClasses}
+use Rattle.meaning.specs.Graph.{operationCount, operationBytes, classCount, mostOperations, mostClasses}
 use Rattle.meaning.specs.Steps.{legal}
 use Rattle.steps.specs.Parts.{graphOf, sized}
-use Rattle.steps.specs.Masks.{classesOf, constraintsOf, allows}
+use Rattle.steps.specs.Masks.{allows}
 use Rattle.steps.specs.declared.Constraints.{Constraints}
 use Rattle.steps.proofs.Allowed.{allows-legal}
 use Rattle.steps.proofs.legal.Statement.{statement}
@@ -51,9 +50,12 @@ returns-3 c =
     let a = s .args in
     let l = a .limits .now in
     let g = graphOf l (a .operations .now) (a .controls .now) (a .arcs .now) in
-    let e = few l (a .operations .now) (a .controls .now) (a .arcs .now) (c .before .before .before .before .before .if1 .left) (c .before .before .before .before .if2 .left) in
+    let e = few l (a .operations .now) (a .controls .now) (a .arcs .now)
+    (c .before .before .before .before .before .if1 .left) (c .before .before .before .before .if2 .left) in
     c .allows .ensures
-    ∙ ap₂ (λ (k : List ℕ) (m : Constraints). allows l k m (a .step)) (c .before .before .before .classes .ensures l (a .controls .now) (a .arcs .now)) (c .before .before .constraints-of .ensures l)
+    ∙ ap₂ (λ (k : List ℕ) (m : Constraints). allows l k m (a .step))
+    (c .before .before .before .classes .ensures l (a .controls .now) (a .arcs .now))
+    (c .before .before .constraints-of .ensures l)
     ∙ allows-legal g (of-true e) (a .done) (a .values) (a .step) (s .fits .step .fits)
     ∙ sym (ap (λ (t : Bool). t && legal g (a .done) (a .values) (a .step)) e)
 

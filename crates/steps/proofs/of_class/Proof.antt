@@ -1,7 +1,7 @@
 -- `steps::of_class` meets its contract. The loop's invariant: the class's operations before j are gathered. Assumes nothing.
 use Prim.Native.Nat.{ℕ, _-_, _*_, _/_, _≤_}
 use native.Mathlib.Omega.{arith}
-use mathlib.Core.Path.{_≡_, refl, _∙_, ap}
+use mathlib.Core.Path.{_≡_, _∙_, ap}
 use mathlib.Core.Bool.{_&&_}
 use borrow.Author.Needs.{needs}
 use lib.Dec.{eqb, ltb}
@@ -33,8 +33,8 @@ loop-again c =
     let s = c .before .before .before .loop in
     let a = c .before .before .before .before .before .args in (
       omega arith,
-      gather-turn 32 (s .found) (c .with .result) (s .j) (eqb (getD (a .operations .now) (3 * s .j) 0) (a .class)) (c .with .ensures)
-          (λ i. eqb (getD (a .operations .now) (3 * i) 0) (a .class)) (s .inv .1) refl,
+      gather-turn 32 (s .found) (c .with .result) (s .j) (c .before .belongs .result) (c .with .ensures)
+          (λ i. eqb (getD (a .operations .now) (3 * i) 0) (a .class)) (s .inv .1) (c .before .belongs .ensures),
     )
 
 returns : tie.Need-returns Inv-loop μ-loop
@@ -51,8 +51,7 @@ of-class-spec =
     Inv-loop
     μ-loop
     loop-holds
-    (λ c. search needs)
-    (λ c. search needs)
+    (λ c κs. search needs)
     (λ c κs. search needs)
     (λ c. search needs)
     loop-less

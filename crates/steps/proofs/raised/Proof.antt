@@ -24,7 +24,8 @@ module _ (x j low : ℕ) (h : x < 2 ^ 32) (k : j < 32) where
   raised-bits : bitOr (bitOr (x / 2 ^ j) 1 * 2 ^ j % 2 ^ 32) (bitAnd low (1 * 2 ^ j % 2 ^ 32 - 1)) ≡ raised x j low
   unfolding raised
   raised-bits =
-      ap₂ (λ (a b : ℕ). bitOr a (bitAnd low (b - 1))) above (one-bit 32 j k) ∙ ap (bitOr ((x / 2 ^ j / 2 * 2 + 1) * 2 ^ j)) (and-mask low j)
+      ap₂ (λ (a b : ℕ). bitOr a (bitAnd low (b - 1))) above (one-bit 32 j k) ∙ ap (bitOr ((x / 2 ^ j / 2 * 2 + 1) * 2 ^ j))
+      (and-mask low j)
       ∙ or-shifted (x / 2 ^ j / 2 * 2 + 1) j (low % 2 ^ j) (mod-lt low (pow-pos j))
 
 sub-result : tie.Need-sub-result

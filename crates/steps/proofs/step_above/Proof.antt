@@ -1,17 +1,13 @@
 -- `steps::step_above` meets its contract. The loop's invariant: raised at any bit outside `free` the step is not allowed.
 -- Assumes nothing.
-use Prim.Native.Nat.{ℕ, _-_, _^_, _<_}
+use Prim.Native.Nat.{_-_, _^_, _<_}
 use native.Mathlib.Omega.{arith}
-use mathlib.Core.Path.{_≡_, sym, _∙_, ap, subst}
-use mathlib.Core.Bool.{not}
+use mathlib.Core.Path.{sym}
 use borrow.Author.Needs.{needs}
 use lib.Bits.{bitAnd, and-le-l}
-use lib.Count.{trailingZeros}
-use lib.Dec.{T}
-use Rattle.machine.proofs.Truth.{of-true, of-false}
 use Rattle.masks.proofs.Bits.{lowest}
 use Rattle.steps.specs.Masks.{raised, allows}
-use Rattle.steps.proofs.Above.{Searched, search-start, search-turn, search-end, search-found}
+use Rattle.steps.proofs.Above.{Searched, search-start, search-less, search-turn, search-end, search-found}
 use Rattle.steps.proofs.Fewer.{allows-closed, allows-ready}
 use Rattle.steps.proofs.step_above.Statement.{statement}
 use Rattle.steps.proofs.step_above.Tie as tie
@@ -40,37 +36,41 @@ loop-holds c =
     (allows-ready (a .limits .now) (a .classes .now) (a .c) h x (a .step))
 
 raised-requires : tie.Need-raised-requires Inv-loop μ-loop
-raised-requires c κs = lowest 32 (c .before .loop .free) (c .before .loop .inv .small) (omega arith) .below
+raised-requires c κs =
+    let l = c .before .loop in
+    lowest 32 (l .free) (l .inv .small) (omega arith) .below
+
+shl-free : tie.Need-shl-free Inv-loop μ-loop
+shl-free c =
+    let l = c .before .before .before .before .loop in
+    lowest 32 (l .free) (l .inv .small) (omega arith) .below
 
 returns : tie.Need-returns Inv-loop μ-loop
 returns c =
-    let s = c .before .before .before .before .before .before .before .before .before in
-    let a = s .args in
+    let a = c .before .before .before .before .before .before .before .before .before .args in
     let l = c .before .before .before .before .loop in
+    let r = c .before .before .raised in
     let d : a .c .demanded < 2 ^ 32 = omega arith in
-    let f = allows (a .limits .now) (a .classes .now) (a .c) in
-    let e = c .before .before .raised .ensures in
-    e ∙ sym (search-found 32 f (a .c .demanded) (allows-closed (a .limits .now) (a .classes .now) (a .c) d) (a .step) (l .free) (l .inv) (omega arith)
-    (subst (λ (k : ℕ). T (f k)) e (of-true (sym (c .before .allows .ensures) ∙ c .if1 .taken))) (subst (λ (k : ℕ). k < 2 ^ 32) e (c .before .before .raised .ok)))
-
-shl-free : tie.Need-shl-free Inv-loop μ-loop
-shl-free c = lowest 32 (c .before .before .before .before .loop .free) (c .before .before .before .before .loop .inv .small) (omega arith) .below
+    search-found 32 (allows (a .limits .now) (a .classes .now) (a .c)) (a .c .demanded)
+    (allows-closed (a .limits .now) (a .classes .now) (a .c) d) (a .step) (l .free) (r .result) (c .before .allows .result)
+    (l .inv)
+    (omega arith) (r .ensures) (c .before .allows .ensures) (c .if1 .taken) (r .ok)
 
 loop-less : tie.Need-loop-less Inv-loop μ-loop
 loop-less c =
     let a = c .before .before .before .before .before .before .before .before .before .args in
     let l = c .before .before .before .before .loop in
-    let f = allows (a .limits .now) (a .classes .now) (a .c) in
-    search-turn 32 f (a .c .demanded) (a .step) (l .free) (l .inv) (omega arith)
-    (subst (λ (k : ℕ). T (not (f k))) (c .before .before .raised .ensures) (of-false (sym (c .before .allows .ensures) ∙ c .if1 .left))) .1
+    search-less 32 (allows (a .limits .now) (a .classes .now) (a .c)) (a .c .demanded) (a .step) (l .free) (l .inv .small)
+    (omega arith)
 
 loop-again : tie.Need-loop-again Inv-loop μ-loop
 loop-again c =
     let a = c .before .before .before .before .before .before .before .before .before .args in
     let l = c .before .before .before .before .loop in
-    let f = allows (a .limits .now) (a .classes .now) (a .c) in
-    search-turn 32 f (a .c .demanded) (a .step) (l .free) (l .inv) (omega arith)
-    (subst (λ (k : ℕ). T (not (f k))) (c .before .before .raised .ensures) (of-false (sym (c .before .allows .ensures) ∙ c .if1 .left))) .0
+    let r = c .before .before .raised in
+    search-turn 32 (allows (a .limits .now) (a .classes .now) (a .c)) (a .c .demanded) (a .step) (l .free) (l .inv .small)
+    (omega arith)
+    (r .result) (c .before .allows .result) (r .ensures) (c .before .allows .ensures) (c .if1 .left) (l .inv)
 
 returns-2 : tie.Need-returns-2 Inv-loop μ-loop
 returns-2 c =
@@ -78,7 +78,8 @@ returns-2 c =
     let a = s .args in
     let l = c .before .loop in
     let d : a .c .demanded < 2 ^ 32 = omega arith in
-    sym (search-end 32 (allows (a .limits .now) (a .classes .now) (a .c)) (a .c .demanded) (allows-closed (a .limits .now) (a .classes .now) (a .c) d)
+    sym (search-end 32 (allows (a .limits .now) (a .classes .now) (a .c)) (a .c .demanded)
+    (allows-closed (a .limits .now) (a .classes .now) (a .c) d)
     (a .step) (l .free) (l .inv) (omega arith))
 
 pub step-above-spec : {M : Type 1} → statement M

@@ -14,7 +14,8 @@ returns c limits operations arcs =
     let f = c .before .before .before .fits in
     ap₂ (λ (p b : ℕ). bitOr (bitAnd p (a .values)) (bitAnd b (a .word))) (c .before .produced .ensures limits operations arcs)
     (c .begun .ensures limits operations arcs)
-    ∙ values-mask (graphOf limits operations (a .controls .now) arcs) (a .done) (a .step) (a .values) (a .word) (f .values .fits) (f .word .fits)
+    ∙ values-mask (graphOf limits operations (a .controls .now) arcs) (a .done) (a .step) (a .values) (a .word)
+    (f .values .fits) (f .word .fits)
 
 pub values-after-spec : {M : Type 1} → statement M
 values-after-spec = tie.close (tie.spec (λ c κs. search needs) (λ c κs. search needs) returns)

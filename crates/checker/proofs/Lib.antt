@@ -1,0 +1,9 @@
+pub mod ByteLaws
+pub mod Loops
+pub mod Lines
+pub mod RowLaws
+pub mod SoundLaws
+pub mod Verdicts
+pub mod Parts
+pub mod Unique
+pub mod Corollaries

@@ -1,0 +1,71 @@
+-- Where rows stand, their order, and the last row's cycle, as the code finds them. Assumes nothing.
+use Prim.Native.Nat.{ℕ, zero, suc, _+_, _-_, _*_, _≤_, _<_}
+use native.Mathlib.Nat.{le-antisymm}
+use native.Mathlib.Numerals.{add-one}
+use native.Mathlib.Omega.{arith}
+use mathlib.Core.Path.{_≡_, refl, sym, _∙_, ap, ap₂, subst}
+use mathlib.Core.Logic.{⊎-elim}
+use mathlib.Core.Bool.{Bool, true, false, cond, not}
+use mathlib.Core.List.{List, [], _∷_}
+use lib.Dec.{T, ltb, eqb}
+use borrow.Author.Tests.{lt-ltb, le-ltb, eq-eqb, ne-eqb}
+use Rattle.machine.specs.Sets.{countBelow}
+use Rattle.machine.specs.Refusals.{Line}
+use Rattle.machine.specs.Tables.{Row, rises, lastCycle, orderLine}
+use Rattle.meaning.specs.Graph.{Graph, content}
+use Rattle.meaning.specs.Steps.{machineOf}
+use Rattle.meaning.specs.TableFile.{rowsOf, maskBytes, rowBytes, rowStart, tableIn}
+use Rattle.meaning.specs.Answers.{cycleStart}
+use Rattle.checker.specs.declared.rows.Row.{Row as Fields}
+use Rattle.checker.specs.Rows.{RowAt, rowOf}
+use Rattle.checker.proofs.Loops.{count-more}
+use Rattle.checker.proofs.Lines.{ClearTo}
+
+pub row-start : (edition n : ℕ) → rowStart edition (suc n) ≡ 8 + 8 * n
+unfolding maskBytes rowBytes rowStart
+row-start edition n = omega arith
+
+module _ (g : Graph) (table : List ℕ) where
+  -- refusal 16
+  abbrev pub order : Line
+  order = orderLine (machineOf g) (tableIn g table)
+
+  -- no row is above the first
+  pub ordered-first : ClearTo order 2
+  unfolding orderLine
+  ordered-first p h = rw (le-ltb 1 p (omega arith)) tt
+
+  -- row i + 1 by the fields of both rows
+  pub order-fault : (i : ℕ) (a b : Fields) (on : Bool) → 0 < i → RowAt table (suc (i - 1)) a → RowAt table (suc i) b
+      → on ≡ rises (machineOf g) (rowOf g a) (rowOf g b) → order .fault (suc i) ≡ not on
+  unfolding orderLine
+  order-fault i a b on h ra rb e =
+      let k : suc i - 1 ≡ suc (i - 1) = omega arith in
+      rw (lt-ltb 1 (suc i) (omega arith), k, ← ra .right g, ← rb .right g, ← e) refl
+
+  -- the last row's cycle
+  pub last-none : (n : ℕ) → n ≡ rowsOf table → n ≡ 0 → 0 ≡ lastCycle (machineOf g) (tableIn g table)
+  unfolding tableIn lastCycle
+  last-none n fits h = rw (← fits, h) refl
+
+  pub last-some : (n : ℕ) (r : Fields) → n ≡ rowsOf table → (n ≡ 0 → ⊥) → RowAt table (suc (n - 1)) r
+      → r .cycle ≡ lastCycle (machineOf g) (tableIn g table)
+  unfolding tableIn lastCycle rowOf
+  last-some n r fits h at =
+      let e : n ≡ suc (n - 1) = omega arith in
+      ap (λ (s : Row (machineOf g)). s .cycle) (at .right g) ∙ rw (← fits, ne-eqb n 0 h, ← e) refl
+
+  -- one row more or not of a cycle before t
+  pub earlier-more : (t i k : ℕ) (r : Fields) (on : Bool) → RowAt table (suc i) r → ltb (r .cycle) t ≡ on
+      → k ≡ countBelow i (λ j. ltb (tableIn g table .row (suc j) .cycle) t)
+      → k + cond on 1 0 ≡ countBelow (i + 1) (λ j. ltb (tableIn g table .row (suc j) .cycle) t)
+  unfolding rowOf
+  earlier-more t i k r on at e h =
+      ap (λ (m : ℕ). m + cond on 1 0) h
+      ∙ sym (count-more (λ j. ltb (tableIn g table .row (suc j) .cycle) t) i on (ap (λ (s : Row (machineOf g)). ltb (s .cycle) t) (sym (at .right g)) ∙ e))
+
+-- all rows are counted
+pub start-of-cycle : (file table : List ℕ) (t n i k : ℕ) → n ≡ rowsOf table → i ≤ n → n ≤ i
+    → ((g : Graph) → k ≡ countBelow i (λ j. ltb (tableIn g table .row (suc j) .cycle) t)) → 8 + 8 * k ≡ cycleStart file table t
+unfolding cycleStart tableIn
+start-of-cycle file table t n i k fits h l e = rw (row-start, ← fits, ← le-antisymm h l, ← e (content file)) refl

@@ -1,0 +1,43 @@
+-- `checker::check` meets its contract. Assumes nothing.
+use mathlib.Core.Path.{sym, _∙_, ap}
+use borrow.Author.Needs.{needs}
+use Rattle.reader.specs.Reading.{verdictOf, valuesOf as readValues}
+use Rattle.checker.proofs.Verdicts.{counted, graph-refused, table-refused, table-accepted}
+use Rattle.checker.proofs.check.Statement.{statement}
+use Rattle.checker.proofs.check.Tie as tie
+
+fault-for-requires : tie.Need-fault-for-requires
+fault-for-requires c κs =
+    counted _ _ _ _ _ (sym (ap readValues (c .before .operations .given .1)) ∙ c .before .before .before .read-graph .ensures)
+
+returns : tie.Need-returns
+returns c =
+    graph-refused _ _ _ _ (sym (ap readValues (c .before .number .given .1)) ∙ c .before .before .before .read-graph .ensures)
+
+returns-2 : tie.Need-returns-2
+unfolding verdictOf
+returns-2 c =
+    table-refused _ _ _ _ (counted _ _ _ _ _ (sym (ap readValues (c .before .before .before .before .before .operations .given .1)) ∙ c .before .before .before .before .before .before .before .read-graph .ensures) .verdict)
+    (sym (c .before .before .before .fault-for .ensures) ∙ ap verdictOf (c .before .number2 .given .1))
+
+returns-3 : tie.Need-returns-3
+unfolding verdictOf
+returns-3 c =
+    table-accepted _ _ _ _ (counted _ _ _ _ _ (sym (ap readValues (c .before .before .before .before .before .before .operations .given .1)) ∙ c .before .before .before .before .before .before .before .before .read-graph .ensures) .verdict)
+    (sym (c .before .before .before .before .fault-for .ensures) ∙ ap verdictOf (c .before .before .enum-told .given .1)) (c .before .cycles .ensures) (c .row-count .ensures .right)
+
+pub check-spec : {M : Type 1} → statement M
+check-spec =
+    tie.close
+    (tie.spec
+    (λ c κs. search needs)
+    (λ c. search needs)
+    (λ c. search needs)
+    fault-for-requires
+    (λ c. search needs)
+    (λ c. search needs)
+    (λ c κs. search needs)
+    (λ c κs. search needs)
+    returns
+    returns-2
+    returns-3)

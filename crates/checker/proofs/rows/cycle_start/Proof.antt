@@ -1,0 +1,54 @@
+-- `checker::rows::cycle_start` meets its contract. Assumes nothing.
+use Prim.Native.Nat.{suc, _-_, _≤_}
+use native.Mathlib.Nat.{add-zero}
+use native.Mathlib.Omega.{arith}
+use mathlib.Core.Path.{_≡_, refl, sym, _∙_}
+use mathlib.Core.Logic.{⊎-elim}
+use mathlib.Core.Bool.{true, false}
+use lib.Dec.{ltb}
+use borrow.Author.Needs.{needs}
+use borrow.Author.Tests.{lt-ltb, le-ltb}
+use Rattle.machine.specs.Sets.{countBelow}
+use Rattle.meaning.specs.Graph.{Graph}
+use Rattle.meaning.specs.TableFile.{tableIn}
+use Rattle.checker.proofs.RowLaws.{earlier-more, start-of-cycle}
+use Rattle.checker.proofs.rows.cycle_start.Statement.{statement}
+use Rattle.checker.proofs.rows.cycle_start.Tie as tie
+
+abbrev Inv-loop : tie.InvT-loop
+Inv-loop table t n earlier₀ i₀ earlier i =
+    (i ≤ n) × (earlier ≤ i) × ((g : Graph) → earlier ≡ countBelow i (λ j. ltb (tableIn g table .row (suc j) .cycle) t))
+
+abbrev μ-loop : tie.MeasureT-loop
+μ-loop table t n earlier₀ i₀ earlier i = n - i
+
+loop-holds : tie.Need-loop-holds Inv-loop μ-loop
+unfolding countBelow
+loop-holds c = (search needs, search needs, λ g. refl)
+
+loop-again : tie.Need-loop-again Inv-loop μ-loop
+loop-again c =
+    ⊎-elim
+    (λ w. (search needs, omega arith, λ g. w .1 ∙ earlier-more g _ _ _ _ _ true (c .before .before .row-at .ensures) (lt-ltb _ _ (w .0 .taken)) (c .before .before .before .before .loop .inv .2 g)))
+    (λ w. (search needs, omega arith, λ g. w .1 ∙ sym (add-zero _) ∙ earlier-more g _ _ _ _ _ false (c .before .before .row-at .ensures) (le-ltb _ _ (w .0 .left)) (c .before .before .before .before .loop .inv .2 g)))
+    (c .if1 .came)
+
+returns : tie.Need-returns Inv-loop μ-loop
+returns c file = start-of-cycle file _ _ _ _ _ (c .before .before .row-count .ensures .right) (c .before .loop .inv .0) (c .loop-test .left) (c .before .loop .inv .2)
+
+pub cycle-start-spec : {M : Type 1} → statement M
+cycle-start-spec =
+    tie.close
+    (tie.spec
+    Inv-loop
+    μ-loop
+    (λ c κs. search needs)
+    loop-holds
+    (λ c κs. search needs)
+    (λ c. search needs)
+    (λ c. search needs)
+    (λ c. search needs)
+    loop-again
+    (λ c. search needs)
+    (λ c. search needs)
+    returns)

@@ -1,0 +1,15 @@
+-- `checker::rows::rises` meets its contract. Assumes nothing.
+use borrow.Author.Needs.{needs}
+use mathlib.Core.Path.{refl}
+use Rattle.machine.specs.Tables.{rises}
+use Rattle.meaning.specs.Steps.{before}
+use Rattle.checker.specs.Rows.{rowOf}
+use Rattle.checker.proofs.rows.rises.Statement.{statement}
+use Rattle.checker.proofs.rows.rises.Tie as tie
+
+returns : tie.Need-returns
+unfolding rises before rowOf
+returns c g = refl
+
+pub rises-spec : {M : Type 1} → statement M
+rises-spec = tie.close (tie.spec returns)

@@ -1,0 +1,28 @@
+-- `checker::rows::row_at` meets its contract. Assumes nothing.
+use borrow.Author.Needs.{needs}
+use Rattle.meaning.specs.TableFile.{maskBytes, tableIn}
+use Rattle.checker.specs.Rows.{rowOf}
+use Rattle.checker.proofs.RowLaws.{row-start}
+use Rattle.checker.proofs.rows.row_at.Statement.{statement}
+use Rattle.checker.proofs.rows.row_at.Tie as tie
+
+returns : tie.Need-returns
+unfolding maskBytes tableIn rowOf
+returns c =
+    record { right = λ g. cc (row-start (g .edition) (c .before .before .before .before .before .args .i)); small = c .before .before .before .byte .ensures .small }
+
+pub row-at-spec : {M : Type 1} → statement M
+row-at-spec =
+    tie.close
+    (tie.spec
+    (λ c. search needs)
+    (λ c. search needs)
+    (λ c κs. search needs)
+    (λ c. search needs)
+    (λ c κs. search needs)
+    (λ c. search needs)
+    (λ c κs. search needs)
+    (λ c. search needs)
+    (λ c. search needs)
+    (λ c κs. search needs)
+    returns)

@@ -1,0 +1,61 @@
+-- `checker::sound::rows_fault` meets its contract. Assumes nothing.
+use Prim.Native.Nat.{ℕ, _-_, _≤_, _<_}
+use native.Mathlib.Nat.{le-antisymm}
+use mathlib.Core.Path.{_≡_, refl, sym, _∙_, ap, subst}
+use borrow.Author.Needs.{needs}
+use Rattle.machine.specs.Sets.{listBelow}
+use Rattle.machine.specs.Refusals.{taken, judge}
+use Rattle.reader.specs.Reading.{verdictOf}
+use Rattle.steps.specs.Parts.{graphOf}
+use Rattle.checker.specs.Rows.{rowLines}
+use Rattle.checker.proofs.Lines.{list-more, list-refused}
+use Rattle.checker.proofs.sound.rows_fault.Statement.{statement}
+use Rattle.checker.proofs.sound.rows_fault.Tie as tie
+
+abbrev Inv-loop : tie.InvT-loop
+Inv-loop limits operations controls arcs table n i₀ i =
+    (i ≤ n) × (judge (listBelow i (rowLines (graphOf limits operations controls arcs) table)) ≡ taken)
+
+abbrev μ-loop : tie.MeasureT-loop
+μ-loop limits operations controls arcs table n i₀ i = n - i
+
+loop-holds : tie.Need-loop-holds Inv-loop μ-loop
+unfolding judge listBelow
+loop-holds c = (search needs, refl)
+
+returns : tie.Need-returns Inv-loop μ-loop
+unfolding verdictOf
+returns c =
+    let d = c .before .before in
+    let e = c .enum-told .given .1 in
+    ap verdictOf e
+    ∙ sym (list-refused _ _ _ _ _ (subst (λ (k : ℕ). d .before .before .loop .i < k) (d .before .before .before .row-count .ensures .right) (d .before .loop-test .taken))
+    (d .before .before .loop .inv .1) (sym (d .row-fault .ensures) ∙ ap verdictOf e))
+
+loop-again : tie.Need-loop-again Inv-loop μ-loop
+unfolding verdictOf
+loop-again c =
+    let d = c .before .before in
+    (search needs, list-more _ _ (d .before .before .loop .inv .1) (sym (d .row-fault .ensures) ∙ ap verdictOf (c .enum-told2 .given .1)))
+
+returns-2 : tie.Need-returns-2 Inv-loop μ-loop
+unfolding verdictOf
+returns-2 c =
+    rw (← c .before .before .row-count .ensures .right, ← le-antisymm (c .before .loop .inv .0) (c .loop-test .left)) (sym (c .before .loop .inv .1))
+
+pub rows-fault-spec : {M : Type 1} → statement M
+rows-fault-spec =
+    tie.close
+    (tie.spec
+    Inv-loop
+    μ-loop
+    (λ c κs. search needs)
+    loop-holds
+    (λ c κs. search needs)
+    (λ c. search needs)
+    returns
+    (λ c. search needs)
+    (λ c. search needs)
+    (λ c. search needs)
+    loop-again
+    returns-2)

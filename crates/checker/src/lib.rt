@@ -1,0 +1,115 @@
+// The checker of table files, and the rows of one cycle.
+mod bytes;
+mod rows;
+mod sound;
+
+use reader::Fault;
+use reader::Read;
+ghost use mathlib.Core.Path.{_≡_};
+ghost use Rattle.machine.specs.Refusals.{judge};
+ghost use Rattle.meaning.specs.Graph.{content};
+ghost use Rattle.meaning.specs.Answers.{tableLines, checker, rowsOfCycle};
+ghost use Rattle.reader.specs.Reading.{verdictOf};
+ghost use Rattle.steps.specs.Parts.{graphOf};
+ghost use Rattle.checker.specs.Rows.{Sizes};
+ghost use Rattle.checker.specs.Checked.{Counted, valuesOf, Lies};
+
+const GRAPH_HEADER_BYTES: usize = 16;
+
+const OPERATION_BYTES: usize = 3;
+
+// What the checker answers.
+pub enum Checked {
+    Refused { number: u32, place: usize },
+    Accepted { cycles: u32, rows: usize },
+}
+
+// Refusals 15 to 20, for a graph of these parts.
+fn table_fault(
+    limits: &[u8],
+    operations: &[u8],
+    controls: &[u8],
+    arcs: &[u8],
+    table: &[u8],
+) -> Fault
+    requires { ⌜ Sizes (graphOf (now limits) (now operations) (now controls) (now arcs)) ⌝ }
+    ensures { λ r.
+        ⌜ verdictOf r
+        ≡ judge (tableLines (graphOf (now (limits .entry)) (now (operations .entry)) (now (controls .entry)) (now (arcs .entry))) (now (table .entry))) ⌝ }
+{
+    if rows::misshapen(table) {
+        return Fault::At {
+            number: 15,
+            place: 0,
+        };
+    }
+    let fault = rows::disorder(table);
+    if let Fault::At {
+        number: _,
+        place: _,
+    } = fault {
+        return fault;
+    }
+    sound::unsound(limits, operations, controls, arcs, table)
+}
+
+// Refusals 15 to 20, for a graph file that is taken with these counts.
+fn fault_for(
+    graph: &[u8],
+    operations: usize,
+    classes: usize,
+    controls: usize,
+    table: &[u8],
+) -> Fault
+    requires { ⌜ Counted (now graph) operations classes controls ⌝ }
+    ensures { λ r. ⌜ verdictOf r ≡ judge (tableLines (content (now (graph .entry))) (now (table .entry))) ⌝ }
+{
+    let operations_at = GRAPH_HEADER_BYTES + classes;
+    let controls_at = operations_at + OPERATION_BYTES * operations;
+    let arcs_at = controls_at + controls;
+    table_fault(
+        &graph[GRAPH_HEADER_BYTES..operations_at],
+        &graph[operations_at..controls_at],
+        &graph[controls_at..arcs_at],
+        &graph[arcs_at..],
+        table,
+    )
+}
+
+// A table file is accepted for a graph file, with its cycles and rows, or one of them is refused with a number and a place.
+pub fn check(graph: &[u8], table: &[u8]) -> Checked
+    ensures { λ r. ⌜ valuesOf r ≡ checker (now (graph .entry)) (now (table .entry)) ⌝ }
+{
+    match reader::read_graph(graph) {
+        Read::Refused { number, place } => Checked::Refused { number, place },
+        Read::Taken {
+            operations,
+            classes,
+            controls,
+            arcs: _,
+        } => match fault_for(graph, operations, classes, controls, table) {
+            Fault::At { number, place } => Checked::Refused { number, place },
+            Fault::Passed => Checked::Accepted {
+                cycles: rows::cycles(table),
+                rows: rows::row_count(table),
+            },
+        },
+    }
+}
+
+// The rows of one cycle, as the part of the lent table in which they stand. Where graph or table is refused, the empty part
+// at its front; where the cycle is 0 or above the table's, the empty part at its end.
+pub fn rows_of<'a>(graph: &[u8], table: &'a [u8], cycle: u32) -> &'a [u8]
+    ensures { λ r. ⌜ Lies (rowsOfCycle (now (graph .entry)) (now (table .entry)) cycle) (table .entry) r ⌝ }
+{
+    let Checked::Accepted { cycles, rows: _ } = check(graph, table) else {
+        return &table[0..0];
+    };
+    let end = table.len();
+    if (cycle == 0) | (cycles < cycle) {
+        return &table[end..end];
+    }
+    let from = rows::cycle_start(table, cycle);
+    let to = rows::cycle_start(table, cycle + 1);
+    &table[from..to]
+}
