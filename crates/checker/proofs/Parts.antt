@@ -1,18 +1,19 @@
 -- The query's part by what the checker answered. Assumes nothing.
-use Prim.Native.Nat.{ℕ, suc, _+_, _≤_, _<_}
-use native.Mathlib.Numerals.{add-one}
+use Prim.Native.Nat.{ℕ, suc, _≤_, _<_, zero-le}
+use native.Mathlib.Nat.{le-refl}
 use native.Mathlib.Omega.{arith}
-use mathlib.Core.Path.{_≡_, refl, sym, _∙_, ap, subst}
-use mathlib.Core.Bool.{true, false, _||_}
+use mathlib.Core.Path.{_≡_, refl, sym, _∙_, ap}
+use mathlib.Core.Logic.{⊎-elim}
+use mathlib.Core.Bool.{Bool, true, false, not, _||_}
 use mathlib.Core.List.{List}
 use lib.ListN.{length}
-use lib.Dec.{eqb, ltb}
+use lib.Dec.{T, eqb, ltb}
 use borrow.Author.Tests.{eqb-false, ltb-false}
 use Rattle.machine.specs.Refusals.{Verdict, taken, refused}
-use Rattle.machine.proofs.Truth.{not-or-left, not-or-right, of-false, false-of}
+use Rattle.machine.proofs.Truth.{not-or-left, not-or-right, decided, of-false, false-of, true-of}
 use Rattle.meaning.specs.TableFile.{cyclesOf, rowsOf}
 use Rattle.meaning.specs.Answers.{Answer, answer, isTaken, checkVerdict, checker, cycleStart, Part, rowsOfCycle}
-use Rattle.meaning.proofs.Query.{HoldsCycle, query-rows}
+use Rattle.meaning.proofs.Query.{query-rows}
 use Rattle.checker.specs.declared.Checked.{Checked}
 use Rattle.checker.specs.declared.Checked.the-variants.{Refused, Accepted}
 use Rattle.checker.specs.Checked.{valuesOf}
@@ -58,11 +59,25 @@ module _ (file table : List ℕ) where
       above-none =
           omega (arith, cycles-right, ltb-false cycles t (false-of (ltb cycles t) (not-or-right (eqb t 0) (ltb cycles t) (of-false h))))
 
-      held : HoldsCycle file table t (rowsOfCycle file table t)
-      held = query-rows file table t accepted some above-none
+  -- every part begins before it ends, and ends in the table
+  pub part-bounds : (t : ℕ) → (rowsOfCycle file table t .start ≤ rowsOfCycle file table t .end) × (rowsOfCycle file table t .end ≤ length table)
+  unfolding rowsOfCycle isTaken
+  part-bounds t = by (checkVerdict file table) refl
+    where
+      Bounds : Part → Type 0
+      Bounds p = (p .start ≤ p .end) × (p .end ≤ length table)
 
-      pub ordered : cycleStart file table t ≤ cycleStart file table (suc t)
-      ordered = subst (λ (p : Part). p .start ≤ p .end) of-cycle (held .ordered)
+      outside : Bool
+      outside = eqb t 0 || ltb (cyclesOf table) t
 
-      pub within : cycleStart file table (suc t) ≤ length table
-      within = subst (λ (p : Part). p .end ≤ length table) of-cycle (held .within)
+      inside : checkVerdict file table ≡ taken → T (not outside) → Bounds (rowsOfCycle file table t)
+      inside e n =
+          let held = query-rows file table t e
+            (omega (arith, eqb-false t 0 (false-of (eqb t 0) (not-or-left (eqb t 0) (ltb (cyclesOf table) t) n))))
+            (ltb-false (cyclesOf table) t (false-of (ltb (cyclesOf table) t) (not-or-right (eqb t 0) (ltb (cyclesOf table) t) n))) in
+          (held .ordered, held .within)
+
+      by : (v : Verdict) → checkVerdict file table ≡ v → Bounds (rowsOfCycle file table t)
+      by taken e =
+          ⊎-elim (λ (o : T outside). rw (e, true-of outside o) (le-refl (length table), le-refl (length table))) (inside e) (decided outside)
+      by (refused k p) e = rw e (le-refl 0, zero-le)

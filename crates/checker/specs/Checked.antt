@@ -9,6 +9,7 @@ use Rattle.meaning.specs.Graph.{operationsOf, classesOf, controlsOf}
 use Rattle.meaning.specs.Answers.{Answer, graphVerdict, Part}
 use Rattle.checker.specs.declared.Checked.{Checked}
 use Rattle.checker.specs.declared.Checked.the-variants.{Refused, Accepted}
+use Rattle.checker.specs.declared.Span.{Span}
 
 -- the verdict and the values of the checker's answer
 unfoldable pub valuesOf : Checked → Answer
@@ -22,6 +23,10 @@ pub record Counted (file : List ℕ) (operations classes controls : ℕ) : Type 
   pub classes-right : classes ≡ classesOf file
   pub controls-right : controls ≡ controlsOf file
   pub within : 16 + classes + 3 * operations + controls ≤ length file
+
+-- the part of a span
+unfoldable pub partOf : Span → Part
+partOf s = record { start = s .start; end = s .end }
 
 -- r is this part of the lent bytes: what it holds, and where it lies, in the same block and from the part's start
 pub record Lies (part : Part) (whole r : RefT (List ℕ)) : Type 0 where

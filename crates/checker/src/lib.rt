@@ -12,7 +12,7 @@ ghost use Rattle.meaning.specs.Answers.{tableLines, checker, rowsOfCycle};
 ghost use Rattle.reader.specs.Reading.{verdictOf};
 ghost use Rattle.steps.specs.Parts.{graphOf};
 ghost use Rattle.checker.specs.Rows.{Sizes};
-ghost use Rattle.checker.specs.Checked.{Counted, valuesOf, Lies};
+ghost use Rattle.checker.specs.Checked.{Counted, valuesOf, partOf, Lies};
 
 const GRAPH_HEADER_BYTES: usize = 16;
 
@@ -97,19 +97,36 @@ pub fn check(graph: &[u8], table: &[u8]) -> Checked
     }
 }
 
-// The rows of one cycle, as the part of the lent table in which they stand. Where graph or table is refused, the empty part
-// at its front; where the cycle is 0 or above the table's, the empty part at its end.
-pub fn rows_of<'a>(graph: &[u8], table: &'a [u8], cycle: u32) -> &'a [u8]
-    ensures { λ r. ⌜ Lies (rowsOfCycle (now (graph .entry)) (now (table .entry)) cycle) (table .entry) r ⌝ }
+// Where the rows of one cycle stand in a table: from a byte on, up to and without another.
+pub struct Span {
+    pub start: usize,
+    pub end: usize,
+}
+
+// The span of the rows of one cycle. Where graph or table is refused, the empty one at the table's front; where the cycle is
+// 0 or above the table's, the empty one at its end.
+pub fn span_of(graph: &[u8], table: &[u8], cycle: u32) -> Span
+    ensures { λ r. ⌜ partOf r ≡ rowsOfCycle (now (graph .entry)) (now (table .entry)) cycle ⌝ }
 {
     let Checked::Accepted { cycles, rows: _ } = check(graph, table) else {
-        return &table[0..0];
+        return Span { start: 0, end: 0 };
     };
     let end = table.len();
     if (cycle == 0) | (cycles < cycle) {
-        return &table[end..end];
+        return Span { start: end, end };
     }
-    let from = rows::cycle_start(table, cycle);
-    let to = rows::cycle_start(table, cycle + 1);
-    &table[from..to]
+    Span {
+        start: rows::cycle_start(table, cycle),
+        end: rows::cycle_start(table, cycle + 1),
+    }
+}
+
+// The rows of one cycle, as the part of the lent table in which they stand.
+pub fn rows_of<'a>(graph: &[u8], table: &'a [u8], cycle: u32) -> &'a [u8]
+    ensures { λ r. ⌜ Lies (rowsOfCycle (now (graph .entry)) (now (table .entry)) cycle) (table .entry) r ⌝ }
+{
+    let span = span_of(graph, table, cycle);
+    let start = span.start;
+    let end = span.end;
+    &table[start..end]
 }
