@@ -73,8 +73,8 @@ module _ (file table : List ℕ) where
       inside : checkVerdict file table ≡ taken → T (not outside) → Bounds (rowsOfCycle file table t)
       inside e n =
           let held = query-rows file table t e
-            (omega (arith, eqb-false t 0 (false-of (eqb t 0) (not-or-left (eqb t 0) (ltb (cyclesOf table) t) n))))
-            (ltb-false (cyclesOf table) t (false-of (ltb (cyclesOf table) t) (not-or-right (eqb t 0) (ltb (cyclesOf table) t) n))) in
+          (omega (arith, eqb-false t 0 (false-of (eqb t 0) (not-or-left (eqb t 0) (ltb (cyclesOf table) t) n))))
+          (ltb-false (cyclesOf table) t (false-of (ltb (cyclesOf table) t) (not-or-right (eqb t 0) (ltb (cyclesOf table) t) n))) in
           (held .ordered, held .within)
 
       by : (v : Verdict) → checkVerdict file table ≡ v → Bounds (rowsOfCycle file table t)
