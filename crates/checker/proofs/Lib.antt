@@ -1,4 +1,3 @@
-pub mod ByteLaws
 pub mod Loops
 pub mod Lines
 pub mod RowLaws

@@ -2,7 +2,7 @@
 use Prim.Native.Nat.{ℕ, _+_, _-_, _*_}
 use native.Mathlib.Omega.{arith}
 use mathlib.Core.Path.{_≡_, refl, sym, _∙_, ap}
-use mathlib.Core.Bool.{true, false, cond}
+use mathlib.Core.Bool.{cond}
 use mathlib.Core.List.{List, [], _∷_}
 use lib.ListN.{length, take, drop}
 use Rattle.machine.specs.Refusals.{Verdict, taken, refused, judge}
@@ -11,7 +11,7 @@ use Rattle.machine.proofs.Refusals.{judge-taken}
 use Rattle.meaning.specs.Graph.{operationBytes, operationsOf, classesOf, controlsOf, arcsOf, operationsStart, controlsStart, arcsStart, fileLines, Graph, content, contentLines}
 use Rattle.meaning.specs.Steps.{machineOf}
 use Rattle.meaning.specs.TableFile.{cyclesOf, rowsOf, layoutLine, tableIn}
-use Rattle.meaning.specs.Answers.{answer, isTaken, graphLines, graphVerdict, Reading, reading, reader, tableLines, checkVerdict, checker}
+use Rattle.meaning.specs.Answers.{answer, graphLines, graphVerdict, Reading, reading, reader, tableLines, checkVerdict, checker}
 use Rattle.meaning.proofs.Taken.{graph-of, operation-most, class-most, control-most}
 use Rattle.reader.specs.declared.Read.{Read}
 use Rattle.reader.specs.declared.Read.the-variants.{Refused as Unread, Taken}

@@ -12,11 +12,6 @@ use Rattle.meaning.specs.Steps.{State, machineOf, complete, legal, after, same}
 use Rattle.meaning.specs.TableFile.{rowsOf, tableIn}
 use Rattle.checker.specs.declared.rows.Row.{Row as Fields}
 
--- r is the number n, which has no more than `size` bytes
-pub record Reads (n size r : ℕ) : Type 0 where
-  pub right : r ≡ n
-  pub small : r < 256 ^ size
-
 -- a state by its two sets
 abbrev pub stateOf : ℕ → ℕ → State
 stateOf done values = record { done = done; values = values }

@@ -1,5 +1,4 @@
 // The checker of table files, and the rows of one cycle.
-mod bytes;
 mod rows;
 mod sound;
 

@@ -1,7 +1,7 @@
 // The rows of a table file: what stands in them, their order, and searches over them.
-use crate::bytes::byte;
-use crate::bytes::pair;
-use crate::bytes::triple;
+use numbers::byte;
+use numbers::pair;
+use numbers::triple;
 use reader::Fault;
 ghost use mathlib.Core.Path.{_≡_};
 ghost use Prim.Native.Nat.{ℕ, suc, _^_, _<_};
@@ -15,7 +15,8 @@ ghost use Rattle.meaning.specs.Steps.{machineOf};
 ghost use Rattle.meaning.specs.TableFile.{cyclesOf, rowsOf, layoutLine, tableIn};
 ghost use Rattle.meaning.specs.Answers.{cycleStart};
 ghost use Rattle.reader.specs.Reading.{verdictOf};
-ghost use Rattle.checker.specs.Rows.{Reads, RowAt, rowOf, stateOf};
+ghost use Rattle.checker.specs.Rows.{RowAt, rowOf, stateOf};
+ghost use Rattle.numbers.specs.Reads.{Reads};
 
 const HEADER_BYTES: usize = 8;
 

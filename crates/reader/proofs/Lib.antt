@@ -1,4 +1,3 @@
-pub mod ByteLaws
 pub mod Chain
 pub mod SetLaws
 pub mod Parts

@@ -1,7 +1,6 @@
 // Refusals 6 to 11: for each a test of one place and a loop over the places, which ends at the first fault. They know the
 // parts alone, no file and no offsets. The conditions of a test are joined by & and |, since each is a look at a few bytes.
 use crate::Fault;
-use crate::bytes::byte;
 use crate::records::ARC_BYTES;
 use crate::records::OPERATION_BYTES;
 use crate::records::follows_join;
@@ -11,6 +10,7 @@ use crate::records::unordered;
 use crate::sets::lacks;
 use crate::sets::misnamed;
 use crate::sets::names;
+use numbers::byte;
 ghost use mathlib.Core.Path.{_≡_};
 ghost use mathlib.Core.List.{[]};
 ghost use Prim.Native.Nat.{_+_, _*_, _^_, _<_};

@@ -1,9 +1,9 @@
 // The header of a graph file: where the parts have to stand, and refusals 1 to 5.
 use crate::Fault;
-use crate::bytes::byte;
-use crate::bytes::pair;
 use crate::records::ARC_BYTES;
 use crate::records::OPERATION_BYTES;
+use numbers::byte;
+use numbers::pair;
 ghost use mathlib.Core.Path.{_≡_};
 ghost use Rattle.machine.specs.Refusals.{judge};
 ghost use Rattle.meaning.specs.Graph.{operationsStart, controlsStart, arcsStart, fileEnd, fileLines};

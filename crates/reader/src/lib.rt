@@ -1,5 +1,4 @@
 // The reader of graph files: refusals 1 to 11.
-mod bytes;
 mod content;
 mod header;
 mod records;
@@ -118,10 +117,10 @@ pub fn read_graph(file: &[u8]) -> Read
     match file_fault(file) {
         Fault::At { number, place } => Read::Refused { number, place },
         Fault::Passed => Read::Taken {
-            operations: bytes::byte(file, 3) as usize,
-            classes: bytes::byte(file, 4) as usize,
-            controls: bytes::byte(file, 5) as usize,
-            arcs: bytes::pair(file, 6) as usize,
+            operations: numbers::byte(file, 3) as usize,
+            classes: numbers::byte(file, 4) as usize,
+            controls: numbers::byte(file, 5) as usize,
+            arcs: numbers::pair(file, 6) as usize,
         },
     }
 }

@@ -1,6 +1,6 @@
 // The records of operations and arcs. A record number is small enough where the place of its last byte is a number.
 use crate::Literals;
-use crate::bytes::byte;
+use numbers::byte;
 ghost use mathlib.Core.Path.{_≡_};
 ghost use mathlib.Core.List.{[]};
 ghost use Prim.Native.Nat.{_+_, _*_, _^_, _<_};

@@ -20,10 +20,10 @@ returns-2 c =
     rw (
       ← d .before .before .file-fault .ensures,
       d .enum-told .given .1,
-      c .before .before .before .byte .ensures,
-      c .before .before .byte2 .ensures,
-      c .before .byte3 .ensures,
-      c .pair .ensures,
+      c .before .before .before .byte .ensures .right,
+      c .before .before .byte2 .ensures .right,
+      c .before .byte3 .ensures .right,
+      c .pair .ensures .right,
     ) refl
 
 pub read-graph-spec : {M : Type 1} → statement M

@@ -8,7 +8,7 @@ use Rattle.reader.proofs.content.classless.Tie as tie
 
 returns : tie.Need-returns
 unfolding contentLines classCount class operationBytes graphOf lineOf
-returns c = rw (c .byte .ensures) refl
+returns c = rw (c .byte .ensures .right) refl
 
 pub classless-spec : {M : Type 1} → statement M
 classless-spec = tie.close (tie.spec (λ c. search needs) (λ c κs. search needs) (λ c. search needs) returns)

@@ -28,14 +28,14 @@ abbrev μ-controls : tie.MeasureT-controls
 earlier-again : tie.Need-earlier-again Inv-earlier μ-earlier Inv-controls μ-controls
 earlier-again c =
     clear-next _ _ _ (c .before .before .before .before .earlier .inv) (c .before .before .before .earlier-test .left)
-    (rw (← c .before .before .byte2 .ensures, ← c .before .byte3 .ensures) (ne-eqb _ _ (c .if3 .left)))
+    (rw (← c .before .before .byte2 .ensures .right, ← c .before .byte3 .ensures .right) (ne-eqb _ _ (c .if3 .left)))
 
 controls-again : tie.Need-controls-again Inv-earlier μ-earlier Inv-controls μ-controls
 unfolding lineOf contentLines producer operationCount operationBytes graphOf
 controls-again c =
     clear-next _ _ _ (c .before .before .before .before .before .controls .inv) (c .before .before .before .before .if1 .left)
     (rw (
-      ap (leb _) (sym (c .before .before .before .byte .ensures)) ∙ lt-leb _ _ (c .before .before .if2 .left),
+      ap (leb _) (sym (c .before .before .before .byte .ensures .right)) ∙ lt-leb _ _ (c .before .before .if2 .left),
       none-inside _ _ _ (c .before .earlier .inv) (c .earlier-test .taken),
     ) refl)
 
@@ -47,7 +47,7 @@ returns-2 : tie.Need-returns-2 Inv-earlier μ-earlier Inv-controls μ-controls
 unfolding verdictOf lineOf contentLines producer operationCount operationBytes controlCount graphOf
 returns-2 c =
     sym (refused-at _ _ (c .before .before .before .controls .inv) (c .before .before .if1 .left)
-    (rw (ap (leb _) (sym (c .before .byte .ensures)) ∙ le-leb _ _ (c .if2 .taken)) refl))
+    (rw (ap (leb _) (sym (c .before .byte .ensures .right)) ∙ le-leb _ _ (c .if2 .taken)) refl))
 
 returns-3 : tie.Need-returns-3 Inv-earlier μ-earlier Inv-controls μ-controls
 unfolding verdictOf lineOf contentLines producer operationCount operationBytes controlCount graphOf
@@ -55,10 +55,10 @@ returns-3 c =
     sym (refused-at _ _ (c .before .before .before .before .before .before .before .before .controls .inv)
     (c .before .before .before .before .before .before .before .if1 .left)
     (rw (
-      ap (leb _) (sym (c .before .before .before .before .before .before .byte .ensures))
+      ap (leb _) (sym (c .before .before .before .before .before .before .byte .ensures .right))
           ∙ lt-leb _ _ (c .before .before .before .before .before .if2 .left),
       some-inside _ _ _ (c .before .before .before .before .earlier .inv) (c .before .before .before .earlier-test .left)
-          (rw (← c .before .before .byte2 .ensures, ← c .before .byte3 .ensures) (eq-eqb _ _ (c .if3 .taken))),
+          (rw (← c .before .before .byte2 .ensures .right, ← c .before .byte3 .ensures .right) (eq-eqb _ _ (c .if3 .taken))),
     ) refl))
 
 pub producers-spec : {M : Type 1} → statement M

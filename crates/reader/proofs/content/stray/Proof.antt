@@ -13,7 +13,7 @@ returns c = rw (
   c .before .names .ensures,
   c .before .before .path2 .ensures,
   c .before .before .before .path .ensures,
-  c .before .before .before .before .byte .ensures,
+  c .before .before .before .before .byte .ensures .right,
 ) refl
 
 pub stray-spec : {M : Type 1} → statement M

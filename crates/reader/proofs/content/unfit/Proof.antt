@@ -13,9 +13,9 @@ returns c = rw (
   c .before .follows-join .ensures,
   c .before .before .misnamed .ensures,
   c .before .before .before .joins .ensures,
-  c .before .before .before .before .byte3 .ensures,
-  c .before .before .before .before .before .byte2 .ensures,
-  c .before .before .before .before .before .before .byte .ensures,
+  c .before .before .before .before .byte3 .ensures .right,
+  c .before .before .before .before .before .byte2 .ensures .right,
+  c .before .before .before .before .before .before .byte .ensures .right,
 ) refl
 
 pub unfit-spec : {M : Type 1} → statement M

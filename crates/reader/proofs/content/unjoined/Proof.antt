@@ -13,8 +13,8 @@ returns c = rw (
   c .before .joins .ensures,
   c .before .before .path2 .ensures,
   c .before .before .before .path .ensures,
-  c .before .before .before .before .byte2 .ensures,
-  c .before .before .before .before .before .byte .ensures,
+  c .before .before .before .before .byte2 .ensures .right,
+  c .before .before .before .before .before .byte .ensures .right,
 ) refl
 
 pub unjoined-spec : {M : Type 1} → statement M

@@ -7,7 +7,7 @@ use Rattle.reader.proofs.header.arcs_start.Tie as tie
 
 returns : tie.Need-returns
 unfolding arcsStart controlsStart operationsStart classesOf operationsOf controlsOf operationBytes
-returns c = rw (c .byte3 .ensures, c .before .byte2 .ensures, c .before .before .byte .ensures) refl
+returns c = rw (c .byte3 .ensures .right, c .before .byte2 .ensures .right, c .before .before .byte .ensures .right) refl
 
 pub arcs-start-spec : {M : Type 1} → statement M
 arcs-start-spec =

@@ -7,7 +7,7 @@ use Rattle.reader.proofs.header.controls_start.Tie as tie
 
 returns : tie.Need-returns
 unfolding controlsStart operationsStart classesOf operationsOf operationBytes
-returns c = rw (c .byte2 .ensures, c .before .byte .ensures) refl
+returns c = rw (c .byte2 .ensures .right, c .before .byte .ensures .right) refl
 
 pub controls-start-spec : {M : Type 1} → statement M
 controls-start-spec =

@@ -8,10 +8,10 @@ use Rattle.reader.proofs.header.file_end.Tie as tie
 returns : tie.Need-returns
 unfolding fileEnd arcsOf arcBytes arcsStart controlsStart operationsStart classesOf operationsOf controlsOf operationBytes
 returns c = rw (
-  c .pair .ensures,
-  c .before .byte3 .ensures,
-  c .before .before .byte2 .ensures,
-  c .before .before .before .byte .ensures,
+  c .pair .ensures .right,
+  c .before .byte3 .ensures .right,
+  c .before .before .byte2 .ensures .right,
+  c .before .before .before .byte .ensures .right,
 ) refl
 
 pub file-end-spec : {M : Type 1} → statement M

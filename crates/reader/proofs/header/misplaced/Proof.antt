@@ -10,12 +10,12 @@ returns : tie.Need-returns
 unfolding fileLines lineOf
 returns c = rw (
   c .arcs-start .ensures,
-  c .before .pair4 .ensures,
+  c .before .pair4 .ensures .right,
   c .before .before .controls-start .ensures,
-  c .before .before .before .pair3 .ensures,
+  c .before .before .before .pair3 .ensures .right,
   c .before .before .before .before .operations-start .ensures,
-  c .before .before .before .before .before .pair2 .ensures,
-  c .before .before .before .before .before .before .pair .ensures,
+  c .before .before .before .before .before .pair2 .ensures .right,
+  c .before .before .before .before .before .before .pair .ensures .right,
 ) refl
 
 pub misplaced-spec : {M : Type 1} → statement M

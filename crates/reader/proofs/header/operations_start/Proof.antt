@@ -7,7 +7,7 @@ use Rattle.reader.proofs.header.operations_start.Tie as tie
 
 returns : tie.Need-returns
 unfolding operationsStart classesOf
-returns c = rw (c .byte .ensures) refl
+returns c = rw (c .byte .ensures .right) refl
 
 pub operations-start-spec : {M : Type 1} → statement M
 operations-start-spec = tie.close (tie.spec (λ c κs. search needs) (λ c. search needs) (λ c. search needs) returns)

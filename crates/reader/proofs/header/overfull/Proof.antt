@@ -9,10 +9,10 @@ use Rattle.reader.proofs.header.overfull.Tie as tie
 returns : tie.Need-returns
 unfolding fileLines mostOperations mostClasses mostControls mostArcs operationsOf classesOf controlsOf arcsOf lineOf
 returns c = rw (
-  c .pair .ensures,
-  c .before .byte3 .ensures,
-  c .before .before .byte2 .ensures,
-  c .before .before .before .byte .ensures,
+  c .pair .ensures .right,
+  c .before .byte3 .ensures .right,
+  c .before .before .byte2 .ensures .right,
+  c .before .before .before .byte .ensures .right,
 ) refl
 
 pub overfull-spec : {M : Type 1} → statement M

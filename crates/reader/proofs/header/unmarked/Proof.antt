@@ -8,7 +8,7 @@ use Rattle.reader.proofs.header.unmarked.Tie as tie
 
 returns : tie.Need-returns
 unfolding fileLines editionOf known lineOf
-returns c = rw (c .byte3 .ensures, c .before .byte2 .ensures, c .before .before .byte .ensures) refl
+returns c = rw (c .byte3 .ensures .right, c .before .byte2 .ensures .right, c .before .before .byte .ensures .right) refl
 
 pub unmarked-spec : {M : Type 1} → statement M
 unmarked-spec = tie.close (tie.spec (λ c κs. search needs) (λ c κs. search needs) (λ c κs. search needs) returns)

@@ -8,7 +8,7 @@ use Rattle.reader.proofs.records.follows_join.Tie as tie
 
 returns : tie.Need-returns
 unfolding followsJoin kind joins arcBytes graphOf
-returns c = rw (c .byte3 .ensures, c .before .byte2 .ensures, c .before .before .byte .ensures) refl
+returns c = rw (c .byte3 .ensures .right, c .before .byte2 .ensures .right, c .before .before .byte .ensures .right) refl
 
 pub follows-join-spec : {M : Type 1} → statement M
 follows-join-spec =

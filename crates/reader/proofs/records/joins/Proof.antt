@@ -8,7 +8,7 @@ use Rattle.reader.proofs.records.joins.Tie as tie
 
 returns : tie.Need-returns
 unfolding joins arcBytes graphOf literalsOf
-returns c = rw (c .byte2 .ensures, c .before .byte .ensures) refl
+returns c = rw (c .byte2 .ensures .right, c .before .byte .ensures .right) refl
 
 pub joins-spec : {M : Type 1} → statement M
 joins-spec = tie.close (tie.spec (λ c. search needs) (λ c. search needs) (λ c κs. search needs) (λ c. search needs) (λ c κs. search needs) returns)

@@ -8,7 +8,7 @@ use Rattle.reader.proofs.records.path.Tie as tie
 
 returns : tie.Need-returns
 unfolding path operationBytes graphOf literalsOf
-returns c = rw (c .byte2 .ensures, c .before .byte .ensures) refl
+returns c = rw (c .byte2 .ensures .right, c .before .byte .ensures .right) refl
 
 pub path-spec : {M : Type 1} → statement M
 path-spec = tie.close (tie.spec (λ c. search needs) (λ c. search needs) (λ c κs. search needs) (λ c. search needs) (λ c κs. search needs) returns)

@@ -17,10 +17,10 @@ unfolding unordered source target arcBytes graphOf
 returns-2 c =
     rw (
       lt-ltb 0 (c .before .before .before .before .before .before .args .a) (omega arith),
-      c .byte4 .ensures,
-      c .before .byte3 .ensures,
-      c .before .before .byte2 .ensures,
-      c .before .before .before .byte .ensures,
+      c .byte4 .ensures .right,
+      c .before .byte3 .ensures .right,
+      c .before .before .byte2 .ensures .right,
+      c .before .before .before .byte .ensures .right,
     ) refl
 
 pub unordered-spec : {M : Type 1} → statement M

@@ -1,11 +1,11 @@
--- `checker::bytes::byte` meets its contract. Assumes nothing.
+-- `numbers::byte` meets its contract. Assumes nothing.
 use native.Mathlib.Omega.{arith}
 use borrow.Author.Needs.{needs}
 use mathlib.Core.Path.{refl, sym}
 use Rattle.meaning.specs.Graph.{byteAt}
-use Rattle.checker.proofs.ByteLaws.{byte-past}
-use Rattle.checker.proofs.bytes.byte.Statement.{statement}
-use Rattle.checker.proofs.bytes.byte.Tie as tie
+use Rattle.numbers.proofs.ByteLaws.{byte-past}
+use Rattle.numbers.proofs.byte.Statement.{statement}
+use Rattle.numbers.proofs.byte.Tie as tie
 
 cast-result : tie.Need-cast-result
 cast-result c = omega (arith, c .shared-slice-known .given (c .before .before .args .i))

@@ -2,9 +2,10 @@
 use Prim.Native.Nat.{ℕ, zero, suc, _+_, _*_, _≤_}
 use native.Mathlib.Nat.{suc-add, zero-add, add-zero}
 use native.Mathlib.Numerals.{one-add}
+use native.Mathlib.Omega.{arith}
 use mathlib.Core.Path.{_≡_, refl}
 use mathlib.Core.List.{List, [], _∷_}
-use lib.ListN.{length, getD, take, drop, List·getD-eq-default}
+use lib.ListN.{length, List·getD-eq-default}
 use lib.Seq.{take-nil, drop-nil}
 use Rattle.meaning.specs.Graph.{byteAt, littleEndian, numberAt}
 
@@ -27,3 +28,9 @@ number-none (x ∷ l) (suc i) = rw (suc-add i 0) (number-none l i)
 
 pub number-one : (l : List ℕ) (i : ℕ) → numberAt l i 1 ≡ byteAt l i
 number-one l i = rw (number-step l i 0, number-none l (i + 1), add-zero (byteAt l i)) refl
+
+-- a number that starts beyond the end is 0
+pub number-past : (l : List ℕ) (i size : ℕ) → length l ≤ i → numberAt l i size ≡ 0
+number-past l i zero h = number-none l i
+number-past l i (suc size) h =
+    rw (number-step l i size, byte-past l i h, number-past l (i + 1) size (omega arith)) refl
