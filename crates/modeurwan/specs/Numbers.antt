@@ -1,0 +1,39 @@
+-- Answers as the plain numbers that cross to C: a verdict is its number and place, and success is 0.
+use Prim.Native.Nat.{ℕ}
+use Rattle.machine.specs.Refusals.{Verdict, taken, refused}
+use Rattle.meaning.specs.Answers.{Answer, Reading, Part}
+use Rattle.modeurwan.specs.declared.ModeurwanAnswer.{ModeurwanAnswer}
+use Rattle.modeurwan.specs.declared.ModeurwanPart.{ModeurwanPart}
+use Rattle.modeurwan.specs.declared.ModeurwanReading.{ModeurwanReading}
+
+unfoldable pub numberOf : Verdict → ℕ
+numberOf taken = 0
+numberOf (refused k p) = k
+
+unfoldable pub placeOf : Verdict → ℕ
+placeOf taken = 0
+placeOf (refused k p) = p
+
+unfoldable pub readingNumbers : Reading → ModeurwanReading
+readingNumbers r =
+    record {
+      number = numberOf (r .verdict);
+      place = placeOf (r .verdict);
+      operations = r .operations;
+      classes = r .classes;
+      controls = r .controls;
+      arcs = r .arcs;
+    }
+
+unfoldable pub answerNumbers : Answer → ModeurwanAnswer
+answerNumbers a =
+    record {
+      number = numberOf (a .verdict);
+      place = placeOf (a .verdict);
+      cycles = a .cycles;
+      rows = a .rows;
+      states = a .states;
+    }
+
+unfoldable pub partNumbers : Part → ModeurwanPart
+partNumbers p = record { start = p .start; end = p .end }

@@ -1,0 +1,96 @@
+// The C interface of the library; include/modeurwan.h declares it. An answer is a number (0 for success), a place and counts.
+use checker::Checked;
+use reader::Read;
+ghost use mathlib.Core.Path.{_≡_};
+ghost use Rattle.meaning.specs.Answers.{reader, checker, rowsOfCycle};
+ghost use Rattle.modeurwan.specs.Numbers.{readingNumbers, answerNumbers, partNumbers};
+
+#[repr(C)]
+pub struct ModeurwanReading {
+    pub number: usize,
+    pub place: usize,
+    pub operations: usize,
+    pub classes: usize,
+    pub controls: usize,
+    pub arcs: usize,
+}
+
+#[repr(C)]
+pub struct ModeurwanAnswer {
+    pub number: usize,
+    pub place: usize,
+    pub cycles: usize,
+    pub rows: usize,
+    pub states: usize,
+}
+
+#[repr(C)]
+pub struct ModeurwanPart {
+    pub start: usize,
+    pub end: usize,
+}
+
+// Reads a graph file.
+#[no_mangle]
+pub extern "C" fn modeurwan_read(graph: &[u8]) -> ModeurwanReading
+    ensures { λ r. ⌜ r ≡ readingNumbers (reader (now (graph .entry))) ⌝ }
+{
+    match reader::read_graph(graph) {
+        Read::Refused { number, place } => ModeurwanReading {
+            number: number as usize,
+            place,
+            operations: 0,
+            classes: 0,
+            controls: 0,
+            arcs: 0,
+        },
+        Read::Taken {
+            operations,
+            classes,
+            controls,
+            arcs,
+        } => ModeurwanReading {
+            number: 0,
+            place: 0,
+            operations,
+            classes,
+            controls,
+            arcs,
+        },
+    }
+}
+
+// Checks a table file for a graph file.
+#[no_mangle]
+pub extern "C" fn modeurwan_check(graph: &[u8], table: &[u8]) -> ModeurwanAnswer
+    ensures { λ r. ⌜ r ≡ answerNumbers (checker (now (graph .entry)) (now (table .entry))) ⌝ }
+{
+    match checker::check(graph, table) {
+        Checked::Refused { number, place } => ModeurwanAnswer {
+            number: number as usize,
+            place,
+            cycles: 0,
+            rows: 0,
+            states: 0,
+        },
+        Checked::Accepted { cycles, rows } => ModeurwanAnswer {
+            number: 0,
+            place: 0,
+            cycles: cycles as usize,
+            rows,
+            states: 0,
+        },
+    }
+}
+
+// Where the rows of one cycle stand in a table.
+#[no_mangle]
+pub extern "C" fn modeurwan_rows_of(graph: &[u8], table: &[u8], cycle: u32) -> ModeurwanPart
+    ensures { λ r. ⌜ r ≡ partNumbers (rowsOfCycle (now (graph .entry)) (now (table .entry)) cycle) ⌝ }
+{
+    let span = checker::span_of(graph, table, cycle);
+    ModeurwanPart {
+        start: span.start,
+        end: span.end,
+    }
+}
