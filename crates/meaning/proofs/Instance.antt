@@ -45,7 +45,7 @@ state-ext : (r s : State) → r .done ≡ s .done → r .values ≡ s .values �
 state-ext r s d v = λ i. record { done = d i; values = v i }
 
 -- the number of operations that are not done
-abbrev undone : Graph → State → ℕ
+abbrev pub undone : Graph → State → ℕ
 undone g s = countBelow (operationCount g) (λ j. not (has (s .done) j))
 
 -- control b is resolved in s
@@ -58,10 +58,10 @@ Agrees g s w = (b : ℕ) → b < controlCount g → T (settled g s b) → has w 
 
 -- A step x from s in a taken graph, where the operation of every control is one of the graph's.
 module _ (g : Graph) (taken : Taken g) (s : State) (x : ℕ) where
-  abbrev next : ℕ → State
+  abbrev pub next : ℕ → State
   next w = after g (s .done) (s .values) x w
 
-  rank-falls : (w : ℕ) → T (legal g (s .done) (s .values) x) → undone g (next w) < undone g s
+  pub rank-falls : (w : ℕ) → T (legal g (s .done) (s .values) x) → undone g (next w) < undone g s
   rank-falls w t =
       let n = operationCount g in
       let r = legal-means g (s .done) (s .values) x .0 t in

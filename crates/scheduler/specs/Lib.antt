@@ -1,0 +1,6 @@
+pub mod Slots
+pub mod Moves
+pub mod Search
+pub mod Rows
+pub mod Writing
+pub mod Promise

@@ -1,0 +1,37 @@
+-- The number and the values of each answer of the scheduler, and its promise.
+use Prim.Native.Nat.{ℕ}
+use mathlib.Core.Path.{_≡_}
+use mathlib.Core.Bool.{cond}
+use mathlib.Core.List.{List, [], _∷_, _++_}
+use lib.ListN.{length, drop, replicate}
+use lib.Dec.{ltb}
+use Rattle.machine.specs.Refusals.{Line, Verdict, taken, refused, placeless, judge}
+use Rattle.machine.specs.Machine.{remaining, stateCount}
+use Rattle.machine.specs.Tables.{scheduleRows}
+use Rattle.meaning.specs.Graph.{Graph}
+use Rattle.meaning.specs.Steps.{machineOf}
+use Rattle.meaning.specs.TableFile.{scheduleFile}
+use Rattle.meaning.specs.Answers.{Answer, answer, isTaken, scheduleLines, scheduler, slotsAfter, tableAfter}
+use Rattle.scheduler.specs.declared.Scheduled.{Scheduled}
+use Rattle.scheduler.specs.declared.Scheduled.the-variants.{Refused, Done}
+
+unfoldable pub valuesOf : Scheduled → Answer
+valuesOf (Refused number place) = record { verdict = refused number place; cycles = 0; rows = 0; states = 0 }
+valuesOf (Done cycles rows states) = record { verdict = taken; cycles = cycles; rows = rows; states = states }
+
+-- The promise: the answer and both buffers afterwards, for any graph file, slots and table buffer.
+pub record Promised (file slots table : List ℕ) (r : Scheduled) (slotsLast tableLast : List ℕ) : Type 0 where
+  pub answers : valuesOf r ≡ scheduler file slots table
+  pub clears : slotsLast ≡ slotsAfter file slots table
+  pub writes : tableLast ≡ tableAfter file slots table
+
+-- the answer and the table buffer of a graph, for the lines that are left of the refusal table
+pub record Answered (g : Graph) (lines : List Line) (states : ℕ) (before after : List ℕ) (r : Scheduled) : Type 0 where
+  pub answers : valuesOf r ≡ answer (judge lines) (remaining (machineOf g) (machineOf g .start)) (length (scheduleRows (machineOf g))) states
+  pub writes : after ≡ cond (isTaken (judge lines)) (scheduleFile g ++ drop (length (scheduleFile g)) before) before
+
+-- refusals 13 and 14
+unfoldable pub laterLines : Graph → ℕ → List Line
+laterLines g room =
+    placeless 13 (ltb (machineOf g .horizon) (remaining (machineOf g) (machineOf g .start)))
+    ∷ placeless 14 (ltb room (length (scheduleFile g))) ∷ []
