@@ -1,7 +1,9 @@
 -- Answers as the plain numbers that cross to C: a verdict is its number and place, and success is 0.
 use Prim.Native.Nat.{ℕ}
+use mathlib.Core.Path.{_≡_}
+use mathlib.Core.List.{List}
 use Rattle.machine.specs.Refusals.{Verdict, taken, refused}
-use Rattle.meaning.specs.Answers.{Answer, Reading, Part}
+use Rattle.meaning.specs.Answers.{Answer, Reading, Part, scheduler, slotsAfter, tableAfter}
 use Rattle.modeurwan.specs.declared.ModeurwanAnswer.{ModeurwanAnswer}
 use Rattle.modeurwan.specs.declared.ModeurwanPart.{ModeurwanPart}
 use Rattle.modeurwan.specs.declared.ModeurwanReading.{ModeurwanReading}
@@ -34,6 +36,12 @@ answerNumbers a =
       rows = a .rows;
       states = a .states;
     }
+
+-- what scheduling gives: the answer's numbers, and both buffers afterwards
+pub record Schedules (file slots table : List ℕ) (r : ModeurwanAnswer) (slotsLast tableLast : List ℕ) : Type 0 where
+  pub answers : r ≡ answerNumbers (scheduler file slots table)
+  pub clears : slotsLast ≡ slotsAfter file slots table
+  pub writes : tableLast ≡ tableAfter file slots table
 
 unfoldable pub partNumbers : Part → ModeurwanPart
 partNumbers p = record { start = p .start; end = p .end }

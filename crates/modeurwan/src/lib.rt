@@ -1,9 +1,10 @@
 // The C interface of the library; include/modeurwan.h declares it. An answer is a number (0 for success), a place and counts.
 use checker::Checked;
 use reader::Read;
+use scheduler::Scheduled;
 ghost use mathlib.Core.Path.{_≡_};
 ghost use Rattle.meaning.specs.Answers.{reader, checker, rowsOfCycle};
-ghost use Rattle.modeurwan.specs.Numbers.{readingNumbers, answerNumbers, partNumbers};
+ghost use Rattle.modeurwan.specs.Numbers.{readingNumbers, answerNumbers, Schedules, partNumbers};
 
 #[repr(C)]
 pub struct ModeurwanReading {
@@ -56,6 +57,37 @@ pub extern "C" fn modeurwan_read(graph: &[u8]) -> ModeurwanReading
             classes,
             controls,
             arcs,
+        },
+    }
+}
+
+// Schedules a graph file, in the slots and the table buffer lent.
+#[no_mangle]
+pub extern "C" fn modeurwan_schedule(
+    graph: &[u8],
+    slots: &mut [u64],
+    table: &mut [u8],
+) -> ModeurwanAnswer
+    ensures { λ r. ⌜ Schedules (now (graph .entry)) (now (slots .entry)) (now (table .entry)) r (now (slots .exit)) (now (table .exit)) ⌝ }
+{
+    match scheduler::schedule(graph, slots, table) {
+        Scheduled::Refused { number, place } => ModeurwanAnswer {
+            number: number as usize,
+            place,
+            cycles: 0,
+            rows: 0,
+            states: 0,
+        },
+        Scheduled::Done {
+            cycles,
+            rows,
+            states,
+        } => ModeurwanAnswer {
+            number: 0,
+            place: 0,
+            cycles: cycles as usize,
+            rows,
+            states,
         },
     }
 }

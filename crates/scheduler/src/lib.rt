@@ -5,11 +5,13 @@ mod slots;
 mod table;
 
 use crate::rows::plan;
-use crate::search::{settle, Settled};
+use crate::search::Settled;
+use crate::search::settle;
 use crate::slots::clear;
-use crate::table::{put_header, HEADER_BYTES, ROW_BYTES};
+use crate::table::HEADER_BYTES;
+use crate::table::ROW_BYTES;
+use crate::table::put_header;
 use reader::Read;
-
 ghost use mathlib.Core.Path.{_≡_};
 ghost use lib.ListN.{length, replicate};
 ghost use Rattle.meaning.specs.Answers.{scheduleLines};
@@ -58,7 +60,18 @@ fn lay(
             place: 0,
         };
     }
-    let rows = plan(limits, operations, controls, arcs, classes, slots, used, number, table, false);
+    let rows = plan(
+        limits,
+        operations,
+        controls,
+        arcs,
+        classes,
+        slots,
+        used,
+        number,
+        table,
+        false,
+    );
     if table.len() < HEADER_BYTES + ROW_BYTES * rows {
         return Scheduled::Refused {
             number: 14,
@@ -66,7 +79,18 @@ fn lay(
         };
     }
     put_header(table, number, rows as u32);
-    plan(limits, operations, controls, arcs, classes, slots, used, number, table, true);
+    plan(
+        limits,
+        operations,
+        controls,
+        arcs,
+        classes,
+        slots,
+        used,
+        number,
+        table,
+        true,
+    );
     Scheduled::Done {
         cycles: number,
         rows,
@@ -75,7 +99,14 @@ fn lay(
 }
 
 // The schedule of a graph that passes refusals 1 to 11, by its parts.
-fn solve(limits: &[u8], operations: &[u8], controls: &[u8], arcs: &[u8], slots: &mut [u64], table: &mut [u8]) -> Scheduled
+fn solve(
+    limits: &[u8],
+    operations: &[u8],
+    controls: &[u8],
+    arcs: &[u8],
+    slots: &mut [u64],
+    table: &mut [u8],
+) -> Scheduled
     requires { ⌜ Accepted (graphOf (now limits) (now operations) (now controls) (now arcs)) ⌝ }
     ensures answer { λ r. ⌜ Answered (graphOf (now (limits .entry)) (now (operations .entry)) (now (controls .entry)) (now (arcs .entry))) (scheduleLines (graphOf (now (limits .entry)) (now (operations .entry)) (now (controls .entry)) (now (arcs .entry))) (length (now (slots .entry))) (length (now (table .entry)))) (stateCount (machineOf (graphOf (now (limits .entry)) (now (operations .entry)) (now (controls .entry)) (now (arcs .entry))))) (now (table .entry)) (now (table .exit)) r ⌝ }
     ensures cleared { λ r. ⌜ now (slots .exit) ≡ replicate (length (now (slots .entry))) 0 ⌝ }
@@ -90,7 +121,17 @@ fn solve(limits: &[u8], operations: &[u8], controls: &[u8], arcs: &[u8], slots: 
             place: 0,
         };
     };
-    let answer = lay(limits, operations, controls, arcs, &classes, slots, used, number, table);
+    let answer = lay(
+        limits,
+        operations,
+        controls,
+        arcs,
+        &classes,
+        slots,
+        used,
+        number,
+        table,
+    );
     clear(slots);
     answer
 }
@@ -101,11 +142,23 @@ pub fn schedule(graph: &[u8], slots: &mut [u64], table: &mut [u8]) -> Scheduled
 {
     match reader::read_graph(graph) {
         Read::Refused { number, place } => Scheduled::Refused { number, place },
-        Read::Taken { operations, classes, controls, arcs: _ } => {
+        Read::Taken {
+            operations,
+            classes,
+            controls,
+            arcs: _,
+        } => {
             let from = 16 + classes;
             let middle = from + 3 * operations;
             let last = middle + controls;
-            solve(&graph[16..from], &graph[from..middle], &graph[middle..last], &graph[last..], slots, table)
+            solve(
+                &graph[16..from],
+                &graph[from..middle],
+                &graph[middle..last],
+                &graph[last..],
+                slots,
+                table,
+            )
         }
     }
 }

@@ -1,8 +1,11 @@
 // The schedule's rows: the states of all words side by side, cycle by cycle, with the chosen step of each.
-use crate::search::{word_above, MISSING};
-use crate::slots::{find, Found};
-use crate::table::{put_row, HEADER_BYTES, ROW_BYTES};
-
+use crate::search::MISSING;
+use crate::search::word_above;
+use crate::slots::Found;
+use crate::slots::find;
+use crate::table::HEADER_BYTES;
+use crate::table::ROW_BYTES;
+use crate::table::put_row;
 ghost use mathlib.Core.Path.{_≡_};
 ghost use mathlib.Core.Bool.{cond};
 ghost use mathlib.Core.List.{List, [], _∷_};
@@ -32,7 +35,16 @@ fn number_of(slots: &[u64], used: usize, done: u32, values: u32) -> u32
 }
 
 // The step leads, however its controls fall, to states that are held with numbers up to the bound.
-fn attains(operations: &[u8], controls: &[u8], slots: &[u64], used: usize, done: u32, values: u32, step: u32, bound: u32) -> bool
+fn attains(
+    operations: &[u8],
+    controls: &[u8],
+    slots: &[u64],
+    used: usize,
+    done: u32,
+    values: u32,
+    step: u32,
+    bound: u32,
+) -> bool
     requires { ⌜ InOrder (now slots) used ⌝ }
     requires { ⌜ length (now controls) ≤ 4 ⌝ }
     ensures { λ r. ⌜ ((limits arcs : List ℕ) → let g = graphOf limits (now (operations .entry)) (now (controls .entry)) arcs in
@@ -81,7 +93,16 @@ fn chosen(
 }
 
 // Counts the row of a state on a word, if the values there are that word's, and writes it if asked to.
-fn place(table: &mut [u8], writing: bool, rows: usize, word: u32, cycle: u32, done: u32, values: u32, step: u32) -> usize
+fn place(
+    table: &mut [u8],
+    writing: bool,
+    rows: usize,
+    word: u32,
+    cycle: u32,
+    done: u32,
+    values: u32,
+    step: u32,
+) -> usize
     requires { ⌜ (values ≡ word → Room writing (now table) (rows + 1)) ⌝ }
     requires { ⌜ (rows < 384) × (cycle < 2 ^ 8) × (values < 2 ^ 8) ⌝ }
     ensures { λ r. ⌜ ((g : Graph) → Laid g writing (now (table .entry)) (now (table .exit)) rows r (cond (eqb values word) (record { cycle = cycle; state = record { done = done; values = values }; step = step } ∷ []) [])) ⌝ }
@@ -92,7 +113,14 @@ fn place(table: &mut [u8], writing: bool, rows: usize, word: u32, cycle: u32, do
     if !writing {
         return rows + 1;
     }
-    put_row(table, HEADER_BYTES + ROW_BYTES * rows, cycle, values, done, step);
+    put_row(
+        table,
+        HEADER_BYTES + ROW_BYTES * rows,
+        cycle,
+        values,
+        done,
+        step,
+    );
     rows + 1
 }
 
@@ -129,7 +157,17 @@ fn cycle(
             word += 1;
             continue;
         }
-        let step = chosen(limits, operations, controls, arcs, classes, slots, used, d, v);
+        let step = chosen(
+            limits,
+            operations,
+            controls,
+            arcs,
+            classes,
+            slots,
+            used,
+            d,
+            v,
+        );
         rows = place(table, writing, rows, word as u32, past + 1, d, v, step);
         done[word] = steps::done_after(operations, d, step);
         values[word] = steps::values_after(controls, d, v, step, word as u32);

@@ -1,6 +1,7 @@
 // The search: every reachable state is met once, and stored with its remaining number.
-use crate::slots::{find, insert, Found};
-
+use crate::slots::Found;
+use crate::slots::find;
+use crate::slots::insert;
 ghost use mathlib.Core.Path.{_≡_};
 ghost use Prim.Native.Nat.{min, max, _≤_, _<_};
 ghost use Rattle.steps.specs.Parts.{graphOf};
@@ -52,7 +53,10 @@ fn store(slots: &mut [u64], used: usize, done: u32, values: u32, number: u32) ->
         return Settled::Full;
     }
     insert(slots, used, done, values, number);
-    Settled::Number { number, used: used + 1 }
+    Settled::Number {
+        number,
+        used: used + 1,
+    }
 }
 
 // Meets a state and all that is reachable from it.
@@ -88,7 +92,17 @@ pub(crate) fn settle(
         let mut word = 0;
         while word <= forks {
             let fallen = steps::values_after(controls, done, values, step, word);
-            let settled = settle(limits, operations, controls, arcs, classes, slots, used, after, fallen);
+            let settled = settle(
+                limits,
+                operations,
+                controls,
+                arcs,
+                classes,
+                slots,
+                used,
+                after,
+                fallen,
+            );
             let Settled::Number { number, used: more } = settled else {
                 return Settled::Full;
             };

@@ -13,7 +13,9 @@ pub(crate) enum Found {
 
 // A slot: from bit 0 the operations done, from bit 40 the values, from bit 49 the number, and bit 55, which is 1.
 const VALUES: u64 = 0x100_0000_0000;
+
 const NUMBER: u64 = 0x2_0000_0000_0000;
+
 const IN_USE: u64 = 0x80_0000_0000_0000;
 
 // The part of a slot that says which state it holds.

@@ -7,7 +7,9 @@ ghost use Rattle.meaning.specs.TableFile.{bytesOf};
 ghost use Rattle.scheduler.specs.Writing.{written};
 
 pub(crate) const HEADER_BYTES: usize = 8;
+
 pub(crate) const ROW_BYTES: usize = 8;
+
 const MASK_BYTES: usize = 3;
 
 // Writes a number at `at`, in `size` bytes, low byte first.

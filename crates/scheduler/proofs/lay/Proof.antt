@@ -106,9 +106,16 @@ put-header-requires c κs =
 plan-requires-2 : tie.Need-plan-requires-2
 plan-requires-2 c κs =
     let p = c .before .before .before .before .before .before .before .before in
-    let found = p .before .before in
-    (entry found .pre .0, (plans found, (number-is found,
-    λ t. omega (arith, c .before .before .before .put-header .kept .0, c .before .before .before .before .before .if2 .left, rows-are p))))
+    let found = p .before .before in (
+      entry found .pre .0,
+      (
+        plans found,
+        (
+          number-is found,
+          λ t. omega (arith, c .before .before .before .put-header .kept .0, c .before .before .before .before .before .if2 .left, rows-are p),
+        ),
+      ),
+    )
 
 same-length-2 : tie.Need-same-length-2
 same-length-2 c =

@@ -24,8 +24,7 @@ graph e = graphOf (e .args .limits .now) (e .args .operations .now) (e .args .co
 settle-requires : tie.Need-settle-requires
 settle-requires c κs =
     let start = c .before .before .before .before .before .before .before .before .before .before .before .before .before in
-    let a = start .args in
-    (
+    let a = start .args in (
       c .before .before .before .before .before .before .classes .ensures (a .limits .now) (a .controls .now) (a .arcs .now),
       subst (λ (l : List ℕ). Ready (graph start) l 0 (machineOf (graph start) .start)) (sym (c .before .before .before .before .clear .ensures))
           (start-ready (graph start) (length (a .slots .now)) (start .pre)),
@@ -61,8 +60,7 @@ returns c =
     let room = length (start .args .table .now) in
     let lent = length (start .args .slots .now) in
     let few : lent < stateCount (machineOf g) = subst (λ (k : ℕ). k < stateCount (machineOf g)) (settled .before .before .before .before .before .clear .kept .0)
-    (subst (SettledTo g (settled .before .before .before .before .before .clear .last .0) (slots settled) (machineOf g .start)) (c .before .before .before .before .enum-told .given .1) (settled .settle .ensures)) in
-    (
+    (subst (SettledTo g (settled .before .before .before .before .before .clear .last .0) (slots settled) (machineOf g .start)) (c .before .before .before .before .enum-told .given .1) (settled .settle .ensures)) in (
       answered-refused g (scheduleLines g lent room) (stateCount (machineOf g)) (start .args .table .now) 12 0 (twelve g lent room few),
       c .before .before .clear2 .ensures ∙ ap (λ (k : ℕ). replicate k 0) (same settled),
     )
@@ -91,8 +89,7 @@ returns-2 c =
     let number = c .before .before .before .before .before .before .before .before .before .before .before .settled .given .0 .0 in
     let used = c .before .before .before .before .before .before .before .before .before .before .before .settled .given .0 .1 .0 in
     let laid = c .before .before .before .before .before .before in
-    let done = subst (SettledTo g (settled .before .before .before .before .before .clear .last .0) (slots settled) (machineOf g .start)) (c .before .before .before .before .before .before .before .before .before .before .before .settled .given .1) (settled .settle .ensures) in
-    (
+    let done = subst (SettledTo g (settled .before .before .before .before .before .clear .last .0) (slots settled) (machineOf g .start)) (c .before .before .before .before .before .before .before .before .before .before .before .settled .given .1) (settled .settle .ensures) in (
       answered-same g (laterLines g (length t)) (scheduleLines g lent (length t)) used (stateCount (machineOf g)) t (laid .lay .last .1 .1 .1 .1 .1 .1 .1 .1 .0) (laid .lay .result)
           (not-twelve g lent (length t) (enough settled number used done)) (count settled number used done) (laid .lay .ensures),
       c .before .before .clear3 .ensures ∙ ap (λ (k : ℕ). replicate k 0) (same settled),

@@ -36,23 +36,27 @@ abbrev μ-loop : tie.MeasureT-loop
 μ-loop operations controls slots used done values step bound forks after word₀ word = suc forks - word
 
 loop-holds : tie.Need-loop-holds Inv-loop μ-loop
-loop-holds c = 
-    (λ h. nothing-within (c .before .begun .result), λ limits arcs ch t b.
-    let a = c .before .before .before .before .before .args in
-    let s : State = record { done = a .done; values = a .values } in
-    let g = graphOf limits (a .operations .now) (a .controls .now) arcs in
-    let forks = c .before .begun .ensures limits (a .operations .now) arcs in
-    attained-none g (a .slots .now) (a .used) s ch (a .step) (a .bound) t b)
+loop-holds c = (
+  λ h. nothing-within (c .before .begun .result),
+  λ limits arcs ch t b.
+      let a = c .before .before .before .before .before .args in
+      let s : State = record { done = a .done; values = a .values } in
+      let g = graphOf limits (a .operations .now) (a .controls .now) arcs in
+      let forks = c .before .begun .ensures limits (a .operations .now) arcs in
+      attained-none g (a .slots .now) (a .used) s ch (a .step) (a .bound) t b,
+)
 
 number-of-requires : tie.Need-number-of-requires Inv-loop μ-loop
 unfolding controlCount
-number-of-requires c κs = 
-    let a = c .before .before .before .before .before .before .before .before .args in
-    (c .before .before .before .before .before .before .before .before .pre .0, subst (λ (k : ℕ). k < 16) (sym (c .values-after .ensures [] (a .operations .now) []))
-    (lt-of-lt-of-le (values-below (graphOf [] (a .operations .now) (a .controls .now) []) (a .done) (a .values) (a .step) (c .before .before .loop .word)) (pow-mono (c .before .before .before .before .before .before .before .before .pre .1))))
+number-of-requires c κs =
+    let a = c .before .before .before .before .before .before .before .before .args in (
+      c .before .before .before .before .before .before .before .before .pre .0,
+      subst (λ (k : ℕ). k < 16) (sym (c .values-after .ensures [] (a .operations .now) []))
+          (lt-of-lt-of-le (values-below (graphOf [] (a .operations .now) (a .controls .now) []) (a .done) (a .values) (a .step) (c .before .before .loop .word)) (pow-mono (c .before .before .before .before .before .before .before .before .pre .1))),
+    )
 
 returns : tie.Need-returns Inv-loop μ-loop
-returns c =  λ limits arcs ch t b.
+returns c = λ limits arcs ch t b.
     let a = c .before .before .before .before .before .before .before .before .before .before .args in
     let s : State = record { done = a .done; values = a .values } in
     let g = graphOf limits (a .operations .now) (a .controls .now) arcs in
@@ -67,35 +71,38 @@ returns c =  λ limits arcs ch t b.
 
 word-above-requires : tie.Need-word-above-requires Inv-loop μ-loop
 unfolding controlCount
-word-above-requires c κs = 
+word-above-requires c κs =
     let a = c .before .before .before .before .before .before .before .before .before .before .args in
     let g = graphOf [] (a .operations .now) (a .controls .now) [] in
-    let forks = c .before .before .before .before .before .before .begun .ensures [] (a .operations .now) [] in
-    (subst (λ (k : ℕ). k < 16) (sym forks) (lt-of-lt-of-le (begun-below g (a .done) (a .step)) (pow-mono (c .before .before .before .before .before .before .before .before .before .before .pre .1))),
-    (c .before .before .before .loop-test .taken, c .before .before .before .before .loop .inv .0 (c .before .before .before .loop-test .taken)))
+    let forks = c .before .before .before .before .before .before .begun .ensures [] (a .operations .now) [] in (
+      subst (λ (k : ℕ). k < 16) (sym forks) (lt-of-lt-of-le (begun-below g (a .done) (a .step)) (pow-mono (c .before .before .before .before .before .before .before .before .before .before .pre .1))),
+      (c .before .before .before .loop-test .taken, c .before .before .before .before .loop .inv .0 (c .before .before .before .loop-test .taken)),
+    )
 
 loop-less : tie.Need-loop-less Inv-loop μ-loop
 loop-less c = omega (arith, c .word-above .ensures .above, c .before .before .before .before .loop-test .taken)
 
 loop-again : tie.Need-loop-again Inv-loop μ-loop
-loop-again c = 
-    (c .word-above .ensures .over, λ limits arcs ch t b.
-    let a = c .before .before .before .before .before .before .before .before .before .before .before .args in
-    let s : State = record { done = a .done; values = a .values } in
-    let g = graphOf limits (a .operations .now) (a .controls .now) arcs in
-    let forks = c .before .before .before .before .before .before .before .begun .ensures limits (a .operations .now) arcs in
-    let word = c .before .before .before .before .before .loop .word in
-    let low : word ≤ begun g (a .done) (a .step) = subst (λ (k : ℕ). word ≤ k) forks (c .before .before .before .before .loop-test .taken) in
-    let there = ap₂ {C = State} (λ (d v : ℕ). record { done = d; values = v }) (c .before .before .before .before .before .before .done-after .ensures limits (a .controls .now) arcs (a .values) word)
-    (c .before .before .before .values-after .ensures limits (a .operations .now) arcs) in
-    let held = subst (λ (r : State). Holds (a .slots .now) r (c .before .before .number-of .result)) there
-    (c .before .before .number-of .ensures (subst (Held (a .slots .now)) (sym there) (next-held g (a .slots .now) (a .used) s ch (a .step) (a .bound) t b word low))) in
-    attained-next g (a .slots .now) (a .used) s ch (a .step) (a .bound) t b word (c .word-above .result) (c .before .before .number-of .result)
-    (c .before .before .before .before .before .loop .inv .1 limits arcs ch t b) low (subst (λ (k : ℕ). T (within word k)) forks (c .before .before .before .before .before .loop .inv .0 (c .before .before .before .before .loop-test .taken))) held (c .before .if1 .left)
-    (subst (λ (k : ℕ). WordAbove k word (c .word-above .result)) forks (c .word-above .ensures)))
+loop-again c = (
+  c .word-above .ensures .over,
+  λ limits arcs ch t b.
+      let a = c .before .before .before .before .before .before .before .before .before .before .before .args in
+      let s : State = record { done = a .done; values = a .values } in
+      let g = graphOf limits (a .operations .now) (a .controls .now) arcs in
+      let forks = c .before .before .before .before .before .before .before .begun .ensures limits (a .operations .now) arcs in
+      let word = c .before .before .before .before .before .loop .word in
+      let low : word ≤ begun g (a .done) (a .step) = subst (λ (k : ℕ). word ≤ k) forks (c .before .before .before .before .loop-test .taken) in
+      let there = ap₂ {C = State} (λ (d v : ℕ). record { done = d; values = v }) (c .before .before .before .before .before .before .done-after .ensures limits (a .controls .now) arcs (a .values) word)
+      (c .before .before .before .values-after .ensures limits (a .operations .now) arcs) in
+      let held = subst (λ (r : State). Holds (a .slots .now) r (c .before .before .number-of .result)) there
+      (c .before .before .number-of .ensures (subst (Held (a .slots .now)) (sym there) (next-held g (a .slots .now) (a .used) s ch (a .step) (a .bound) t b word low))) in
+      attained-next g (a .slots .now) (a .used) s ch (a .step) (a .bound) t b word (c .word-above .result) (c .before .before .number-of .result)
+      (c .before .before .before .before .before .loop .inv .1 limits arcs ch t b) low (subst (λ (k : ℕ). T (within word k)) forks (c .before .before .before .before .before .loop .inv .0 (c .before .before .before .before .loop-test .taken))) held (c .before .if1 .left)
+      (subst (λ (k : ℕ). WordAbove k word (c .word-above .result)) forks (c .word-above .ensures)),
+)
 
 returns-2 : tie.Need-returns-2 Inv-loop μ-loop
-returns-2 c =  λ limits arcs ch t b.
+returns-2 c = λ limits arcs ch t b.
     let a = c .before .before .before .before .before .before .before .args in
     let s : State = record { done = a .done; values = a .values } in
     let g = graphOf limits (a .operations .now) (a .controls .now) arcs in

@@ -27,17 +27,18 @@ abbrev μ-loop : tie.MeasureT-loop
     2 ^ operationCount (graphOf limits operations controls arcs) - upTo (graphOf limits operations controls arcs) step
 
 number-of-requires : tie.Need-number-of-requires Inv-loop μ-loop
-number-of-requires c κs = 
+number-of-requires c κs =
     let start = c .before .before .before .before .before .before in
     let a = start .args in
     let g = graphOf (a .limits .now) (a .operations .now) (a .controls .now) (a .arcs .now) in
     let s : State = record { done = a .done; values = a .values } in
-    let choosing = start .pre .1 in
-    (choosing .store .order,
-    reachable-values g (choosing .accepted) s (choosing .store .good .reach s (choosing .held .0) (choosing .held .1)))
+    let choosing = start .pre .1 in (
+      choosing .store .order,
+      reachable-values g (choosing .accepted) s (choosing .store .good .reach s (choosing .held .0) (choosing .held .1)),
+    )
 
 sub-bound : tie.Need-sub-bound Inv-loop μ-loop
-sub-bound c = 
+sub-bound c =
     let start = c .before .before .before .before .before .before .before in
     let a = start .args in
     let g = graphOf (a .limits .now) (a .operations .now) (a .controls .now) (a .arcs .now) in
@@ -48,7 +49,7 @@ sub-bound c =
     number-positive g (a .slots .now) (a .used) s choosing number held
 
 loop-holds : tie.Need-loop-holds Inv-loop μ-loop
-loop-holds c = 
+loop-holds c =
     let start = c .before .before .before .before .before .before .before .before in
     let a = start .args in
     let g = graphOf (a .limits .now) (a .operations .now) (a .controls .now) (a .arcs .now) in
@@ -62,12 +63,12 @@ loop-holds c =
 
 attains-requires : tie.Need-attains-requires Inv-loop μ-loop
 unfolding controlCount
-attains-requires c κs = 
+attains-requires c κs =
     let choosing = c .before .before .before .before .before .before .before .before .before .before .pre .1 in
     (choosing .store .order, choosing .accepted .controls)
 
 returns : tie.Need-returns Inv-loop μ-loop
-returns c = 
+returns c =
     let start = c .before .before .before .before .before .before .before .before .before .before .before .before in
     let a = start .args in
     let g = graphOf (a .limits .now) (a .operations .now) (a .controls .now) (a .arcs .now) in
@@ -81,7 +82,7 @@ returns c =
     passed-found g (a .slots .now) (a .used) s choosing number held (c .before .before .before .loop .step) passed (c .before .before .loop-test .taken) (sym (c .if1 .taken) ∙ led)
 
 loop-less : tie.Need-loop-less Inv-loop μ-loop
-loop-less c = 
+loop-less c =
     let start = c .before .before .before .before .before .before .before .before .before .before .before .before .before in
     let a = start .args in
     let g = graphOf (a .limits .now) (a .operations .now) (a .controls .now) (a .arcs .now) in
@@ -97,7 +98,7 @@ loop-less c =
     tried-fewer g s (choosing .accepted) (c .before .before .before .before .loop .step) (c .step-above2 .result) (c .before .before .before .loop-test .taken) lawful above
 
 loop-again : tie.Need-loop-again Inv-loop μ-loop
-loop-again c = 
+loop-again c =
     let start = c .before .before .before .before .before .before .before .before .before .before .before .before .before in
     let a = start .args in
     let g = graphOf (a .limits .now) (a .operations .now) (a .controls .now) (a .arcs .now) in
@@ -113,7 +114,7 @@ loop-again c =
     (passed-next g (a .slots .now) (a .used) s choosing number held (c .before .before .before .before .loop .step) (c .step-above2 .result) passed (c .before .before .before .loop-test .taken) (sym (c .before .if1 .left) ∙ led) above)
 
 returns-2 : tie.Need-returns-2 Inv-loop μ-loop
-returns-2 c = 
+returns-2 c =
     let start = c .before .before .before .before .before .before .before .before .before .before in
     let a = start .args in
     let g = graphOf (a .limits .now) (a .operations .now) (a .controls .now) (a .arcs .now) in

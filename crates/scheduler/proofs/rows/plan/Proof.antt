@@ -48,13 +48,13 @@ room e t = omega (arith, ap length (all-rows e), e .pre .1 .1 .1 t)
 
 loop-holds : tie.Need-loop-holds Inv-loop μ-loop
 unfolding controlCount listBelow
-loop-holds c = 
+loop-holds c =
     let start = c .before .before .before .before .before .before in
     (zero-le, meets-start (graph start) (few start), laid-none (graph start) (start .args .writing) (start .args .table .now) 0)
 
 cycle-requires : tie.Need-cycle-requires Inv-loop μ-loop
 unfolding controlCount
-cycle-requires c κs = 
+cycle-requires c κs =
     let l = c .before .before .before .before .loop in
     let start = c .before .before .before .before .before .before .before .before .before .before .before in
     let a = start .args in
@@ -82,7 +82,7 @@ loop-less : tie.Need-loop-less Inv-loop μ-loop
 loop-less c = omega (arith, c .before .before .before .before .before .before .loop-test .taken)
 
 loop-again : tie.Need-loop-again Inv-loop μ-loop
-loop-again c = 
+loop-again c =
     let turn = c .before .before .before .before .before .before in
     let l = turn .before .loop in
     let start = c .before .before .before .before .before .before .before .before .before .before .before .before .before .before in
@@ -109,7 +109,7 @@ laid-all c =
     (ap (λ (k : ℕ). listBelow k (cycleRows (graph start))) all ∙ sym (all-rows start)) (l .inv .2)
 
 same-length : tie.Need-same-length Inv-loop μ-loop
-same-length c = 
+same-length c =
     let start = c .before .before .before .before .before .before .before .before in
     let a = start .args in
     laid-length (graph start) (a .writing) (a .table .now) (c .before .loop .table) 0 (c .before .loop .rows) (scheduleRows (machineOf (graph start))) (laid-all c)

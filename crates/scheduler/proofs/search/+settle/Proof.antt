@@ -66,7 +66,7 @@ settle-μ-loop limits operations controls arcs classes slots₀ used done values
 pub +settle-spec : {M : Type 1} → statement M
 unfolding upTo
 +settle-spec =
-    close μ-settle (λ t. settle-lts.spec ( find-reads.Asked, find-reads.Learnt, complete-reads.Asked, complete-reads.Learnt, store-reads.Asked, store-reads.Learnt, constraints-of-reads.Asked, constraints-of-reads.Learnt, step-above-reads.Asked, step-above-reads.Learnt, begun-reads.Asked, begun-reads.Learnt, done-after-reads.Asked, done-after-reads.Learnt, values-after-reads.Asked, values-after-reads.Learnt, settle-below t, settle.Post, larger-reads.Asked, larger-reads.Learnt, word-above-reads.Asked, word-above-reads.Learnt, smaller-reads.Asked, smaller-reads.Learnt, )
+    close μ-settle (λ t. settle-lts.spec (find-reads.Asked, find-reads.Learnt, complete-reads.Asked, complete-reads.Learnt, store-reads.Asked, store-reads.Learnt, constraints-of-reads.Asked, constraints-of-reads.Learnt, step-above-reads.Asked, step-above-reads.Learnt, begun-reads.Asked, begun-reads.Learnt, done-after-reads.Asked, done-after-reads.Learnt, values-after-reads.Asked, values-after-reads.Learnt, settle-below t, settle.Post, larger-reads.Asked, larger-reads.Learnt, word-above-reads.Asked, word-above-reads.Learnt, smaller-reads.Asked, smaller-reads.Learnt)
     (settle-at t) settle.Post settle-Inv-loop2 settle-μ-loop2 settle-Inv-loop settle-μ-loop
     -- find-requires
     (λ c κs. let start = c .before .before .before .before .before .before in
@@ -95,7 +95,6 @@ unfolding upTo
     let storable = complete-storable g (a .slots .now) (a .used) s (start .pre .1 .1)
     (subst (Finds (a .slots .now) s) (c .before .before .before .enum-told .given .1) (c .before .before .before .before .before .find .ensures))
     (of-true (sym (c .before .before .complete .ensures (a .limits .now) (a .arcs .now)) ∙ c .before .if1 .taken)) in
-
     (storable .ready .store .order, ((reachable-values g (storable .ready .accepted) s (storable .ready .reachable), omega (arith, storable .right .small)), storable .absent)))
     -- same-length-2
     (λ c. c .before .before .store .kept .0)
@@ -107,7 +106,6 @@ unfolding upTo
     let storable = complete-storable g (a .slots .now) (a .used) s (start .pre .1 .1)
     (subst (Finds (a .slots .now) s) (c .before .before .before .before .before .before .enum-told .given .1) (c .before .before .before .before .before .before .before .before .find .ensures))
     (of-true (sym (c .before .before .before .before .before .complete .ensures (a .limits .now) (a .arcs .now)) ∙ c .before .before .before .before .if1 .taken)) in
-
     stored-settled g (a .slots .now) (c .before .before .store .last .0) (a .used) s 0 storable (c .before .before .store .kept .0) (c .before .before .store .result) (c .before .before .store .ensures))
     -- constraints-of-requires
     (λ c κs. search needs)
@@ -141,13 +139,18 @@ unfolding upTo
     let lawful = c .before .before .before .before .before .before .before .loop .inv .lawful (c .before .before .before .before .before .before .loop-test .taken) in
     let forks = c .before .before .before .before .before .begun .ensures (a .limits .now) (a .operations .now) (a .arcs .now) in
     let done = c .before .before .before .before .done-after .ensures (a .limits .now) (a .controls .now) (a .arcs .now) (a .values) (branch .word) in
-    let values = c .before .values-after .ensures (a .limits .now) (a .operations .now) (a .arcs .now) in
-    (subst (λ (k : ℕ). undone g (record { done = c .before .before .before .before .done-after .result; values = 0 }) < k) (start .pre .0)
-    (subst (λ (d : ℕ). undone g (record { done = d; values = 0 }) < undone g s) (sym done)
-    (rank-falls g (ready .accepted .taken) s (c .before .before .before .before .before .before .before .loop .step) (branch .word) lawful)), (start .pre .1 .0, subst (Ready g (branch .slots) (branch .used)) (sym (ap₂ (λ (d v : ℕ). record { done = d; values = v }) done values))
-    (branched-ready g s (ready .accepted) (c .before .before .before .before .before .before .before .loop .step) (c .before .before .before .before .before .before .before .loop .slots) (branch .slots) (branch .used) (branch .worst) (branch .word) (ready .reachable)
-    (of-false (sym (c .before .before .before .before .before .before .before .before .before .before .before .complete .ensures (a .limits .now) (a .arcs .now)) ∙ c .before .before .before .before .before .before .before .before .before .before .if1 .left)) lawful (branch .inv)
-    (subst (λ (k : ℕ). branch .word ≤ k) forks (c .before .before .loop2-test .taken))))))
+    let values = c .before .values-after .ensures (a .limits .now) (a .operations .now) (a .arcs .now) in (
+      subst (λ (k : ℕ). undone g (record { done = c .before .before .before .before .done-after .result; values = 0 }) < k) (start .pre .0)
+          (subst (λ (d : ℕ). undone g (record { done = d; values = 0 }) < undone g s) (sym done)
+          (rank-falls g (ready .accepted .taken) s (c .before .before .before .before .before .before .before .loop .step) (branch .word) lawful)),
+      (
+        start .pre .1 .0,
+        subst (Ready g (branch .slots) (branch .used)) (sym (ap₂ (λ (d v : ℕ). record { done = d; values = v }) done values))
+            (branched-ready g s (ready .accepted) (c .before .before .before .before .before .before .before .loop .step) (c .before .before .before .before .before .before .before .loop .slots) (branch .slots) (branch .used) (branch .worst) (branch .word) (ready .reachable)
+            (of-false (sym (c .before .before .before .before .before .before .before .before .before .before .before .complete .ensures (a .limits .now) (a .arcs .now)) ∙ c .before .before .before .before .before .before .before .before .before .before .if1 .left)) lawful (branch .inv)
+            (subst (λ (k : ℕ). branch .word ≤ k) forks (c .before .before .loop2-test .taken))),
+      ),
+    ))
     -- enum-known-settled
     (λ c. search needs)
     -- enum-told-2
@@ -170,9 +173,10 @@ unfolding upTo
     let g = graphOf (a .limits .now) (a .operations .now) (a .controls .now) (a .arcs .now) in
     let s : State = record { done = a .done; values = a .values } in
     let forks = c .before .before .before .before .before .before .before .before .before .before .before .before .begun .ensures (a .limits .now) (a .operations .now) (a .arcs .now) in
-    let within-forks : c .before .before .before .before .before .before .before .before .before .before .loop2 .word ≤ begun g (a .done) (c .before .before .before .before .before .before .before .before .before .before .before .before .before .before .loop .step) = subst (λ (k : ℕ). c .before .before .before .before .before .before .before .before .before .before .loop2 .word ≤ k) forks (c .before .before .before .before .before .before .before .before .before .loop2-test .taken) in
-    (subst (λ (k : ℕ). k < 16) (sym forks) (forks-small g s (start .pre .1 .1 .accepted) (c .before .before .before .before .before .before .before .before .before .before .before .before .before .before .loop .step)),
-    (c .before .before .before .before .before .before .before .before .before .loop2-test .taken, subst (λ (k : ℕ). T (within (c .before .before .before .before .before .before .before .before .before .before .loop2 .word) k)) (sym forks) (c .before .before .before .before .before .before .before .before .before .before .loop2 .inv .over within-forks))))
+    let within-forks : c .before .before .before .before .before .before .before .before .before .before .loop2 .word ≤ begun g (a .done) (c .before .before .before .before .before .before .before .before .before .before .before .before .before .before .loop .step) = subst (λ (k : ℕ). c .before .before .before .before .before .before .before .before .before .before .loop2 .word ≤ k) forks (c .before .before .before .before .before .before .before .before .before .loop2-test .taken) in (
+      subst (λ (k : ℕ). k < 16) (sym forks) (forks-small g s (start .pre .1 .1 .accepted) (c .before .before .before .before .before .before .before .before .before .before .before .before .before .before .loop .step)),
+      (c .before .before .before .before .before .before .before .before .before .loop2-test .taken, subst (λ (k : ℕ). T (within (c .before .before .before .before .before .before .before .before .before .before .loop2 .word) k)) (sym forks) (c .before .before .before .before .before .before .before .before .before .before .loop2 .inv .over within-forks)),
+    ))
     -- loop2-less
     (λ c. omega (arith, c .word-above .ensures .above, c .before .before .before .before .before .before .before .before .before .before .loop2-test .taken))
     -- loop2-again
@@ -209,7 +213,6 @@ unfolding upTo
     let lawful = tried .inv .lawful (c .before .before .before .before .before .before .before .loop-test .taken) in
     let above = step-found g (start .pre .1 .1 .accepted) s (a .classes .now) (c .before .before .before .before .before .before .before .before .before .before .constraints-of .result) (tried .step) (c .step-above2 .result)
     (start .pre .1 .0) (c .before .before .before .before .before .before .before .before .before .before .constraints-of .ensures (a .limits .now)) (lawful-steps g s (start .pre .1 .1 .accepted) (tried .step) lawful) (c .step-above2 .ensures) in
-
     tried-fewer g s (start .pre .1 .1 .accepted) (tried .step) (c .step-above2 .result) (c .before .before .before .before .before .before .before .loop-test .taken) lawful above)
     -- loop-again
     (λ c. let start = c .before .before .before .before .before .before .before .before .before .before .before .before .before .before .before .before .before .before .before .before .before .before in
@@ -220,7 +223,6 @@ unfolding upTo
     let lawful = tried .inv .lawful (c .before .before .before .before .before .before .before .loop-test .taken) in
     let above = step-found g (start .pre .1 .1 .accepted) s (a .classes .now) (c .before .before .before .before .before .before .before .before .before .before .constraints-of .result) (tried .step) (c .step-above2 .result)
     (start .pre .1 .0) (c .before .before .before .before .before .before .before .before .before .before .constraints-of .ensures (a .limits .now)) (lawful-steps g s (start .pre .1 .1 .accepted) (tried .step) lawful) (c .step-above2 .ensures) in
-
     let forks = c .before .before .before .before .before .before .begun .ensures (a .limits .now) (a .operations .now) (a .arcs .now) in
     let branch = c .before .before .before .before .loop2 in
     subst (λ (k : ℕ). Tried g s (a .slots .now) (branch .slots) (branch .used) k (c .step-above2 .result))
@@ -237,7 +239,6 @@ unfolding upTo
     (subst (Tried g s (a .slots .now) (last .slots) (last .used) (last .least)) (c .before .loop-test .left) (last .inv))
     (of-false (sym (c .before .before .before .before .before .before .complete .ensures (a .limits .now) (a .arcs .now)) ∙ c .before .before .before .before .before .if1 .left)) (start .pre .1 .1 .reachable)
     (subst (Finds (a .slots .now) s) (c .before .before .before .before .before .before .before .enum-told .given .1) (c .before .before .before .before .before .before .before .before .before .find .ensures)) in
-
     (storable .ready .store .order, ((reachable-values g (storable .ready .accepted) s (storable .ready .reachable), omega (arith, storable .right .small)), storable .absent)))
     -- same-length-4
     (λ c. c .before .before .store2 .kept .0 ∙ c .before .before .before .before .before .loop .inv .grown .same-length)
@@ -251,6 +252,5 @@ unfolding upTo
     (subst (Tried g s (a .slots .now) (last .slots) (last .used) (last .least)) (c .before .before .before .before .loop-test .left) (last .inv))
     (of-false (sym (c .before .before .before .before .before .before .before .before .before .complete .ensures (a .limits .now) (a .arcs .now)) ∙ c .before .before .before .before .before .before .before .before .if1 .left)) (start .pre .1 .1 .reachable)
     (subst (Finds (a .slots .now) s) (c .before .before .before .before .before .before .before .before .before .before .enum-told .given .1) (c .before .before .before .before .before .before .before .before .before .before .before .before .find .ensures)) in
-
     settled-after g (a .slots .now) (last .slots) (c .before .before .store2 .last .0) (last .used) s (c .before .before .store2 .result) (last .inv .grown)
     (stored-settled g (last .slots) (c .before .before .store2 .last .0) (last .used) s (last .least) storable (c .before .before .store2 .kept .0) (c .before .before .store2 .result) (c .before .before .store2 .ensures))))
