@@ -1,8 +1,7 @@
 /* Modeurwan: schedules for control graphs, checked. Link libmodeurwan.a.
  *
  * Every function takes any input: there is nothing a caller must see to first, beyond that each pointer is good for the
- * length beside it. Files are the scope document's graph file (editions 1) and table file; numbers of two bytes are
- * little-endian there. */
+ * length beside it. Files are the graph file and the table file of the project's scope document, edition 1. */
 #ifndef MODEURWAN_H
 #define MODEURWAN_H
 
@@ -48,3 +47,44 @@ enum {
     MODEURWAN_ROW_MISSING = 19,       /* a state that is met has no row; place: 0 for the start, or the row before */
     MODEURWAN_CYCLES = 20             /* cycles is not the last row's cycle */
 };
+
+/* What reading a graph gives: a refusal number with its place and zero counts, or 0 with the graph's counts. */
+struct modeurwan_reading {
+    size_t number, place;
+    size_t operations, classes, controls, arcs;
+};
+
+/* What scheduling or checking gives: a refusal number with its place and zero counts, or 0 with the counts. */
+struct modeurwan_answer {
+    size_t number, place;
+    size_t cycles, rows, states;
+};
+
+/* A part of a table: the bytes from start on, up to and without end. */
+struct modeurwan_part {
+    size_t start, end;
+};
+
+/* Reads a graph file: refusals 1 to 11. */
+struct modeurwan_reading modeurwan_read(const uint8_t *graph, size_t graph_length);
+
+/* Schedules a graph file: refusals 1 to 14, or the shortest table, written to the front of `table`, with its cycles, rows
+ * and the number of reachable states. Each slot pays for one reachable state and may come with any content. After refusals
+ * 1 to 11 both buffers hold what they held; after any other answer all slots are 0, and only success changes `table`. */
+struct modeurwan_answer modeurwan_schedule(const uint8_t *graph, size_t graph_length, uint64_t *slots, size_t slot_count,
+                                           uint8_t *table, size_t table_room);
+
+/* Checks a table file for a graph file: refusals 1 to 11 and 15 to 20, or success with the table's cycles and rows. */
+struct modeurwan_answer modeurwan_check(const uint8_t *graph, size_t graph_length, const uint8_t *table,
+                                        size_t table_length);
+
+/* The rows of one cycle, as a part of the table: [0, 0) where graph or table is refused, [length, length) where the cycle is 0
+ * or above the table's. */
+struct modeurwan_part modeurwan_rows_of(const uint8_t *graph, size_t graph_length, const uint8_t *table,
+                                        size_t table_length, uint32_t cycle);
+
+#ifdef __cplusplus
+}
+#endif
+
+#endif

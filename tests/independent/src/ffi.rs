@@ -5,11 +5,11 @@ use std::ops::Range;
 
 #[repr(C)]
 struct ModeurwanAnswer {
-    number: u32,
-    place: u32,
-    cycles: u32,
-    rows: u32,
-    states: u32,
+    number: usize,
+    place: usize,
+    cycles: usize,
+    rows: usize,
+    states: usize,
 }
 
 #[repr(C)]
@@ -20,12 +20,12 @@ struct ModeurwanPart {
 
 #[repr(C)]
 struct ModeurwanReading {
-    number: u32,
-    place: u32,
-    operations: u32,
-    classes: u32,
-    controls: u32,
-    arcs: u32,
+    number: usize,
+    place: usize,
+    operations: usize,
+    classes: usize,
+    controls: usize,
+    arcs: usize,
 }
 
 extern "C" {
@@ -56,14 +56,19 @@ extern "C" {
     ) -> ModeurwanPart;
 }
 
+/// A number of an answer, all of which are far below 2 to the 32.
+fn small(number: usize) -> u32 {
+    u32::try_from(number).expect("an answer's numbers are small")
+}
+
 impl From<ModeurwanAnswer> for Answer {
     fn from(answer: ModeurwanAnswer) -> Self {
         Answer {
-            number: answer.number,
-            place: answer.place,
-            cycles: answer.cycles,
-            rows: answer.rows,
-            states: answer.states,
+            number: small(answer.number),
+            place: small(answer.place),
+            cycles: small(answer.cycles),
+            rows: small(answer.rows),
+            states: small(answer.states),
         }
     }
 }
@@ -72,12 +77,12 @@ pub fn read(graph: &[u8]) -> Reading {
     // SAFETY: the pointer and the length are those of one slice, only read.
     let reading = unsafe { modeurwan_read(graph.as_ptr(), graph.len()) };
     Reading {
-        number: reading.number,
-        place: reading.place,
-        operations: reading.operations,
-        classes: reading.classes,
-        controls: reading.controls,
-        arcs: reading.arcs,
+        number: small(reading.number),
+        place: small(reading.place),
+        operations: small(reading.operations),
+        classes: small(reading.classes),
+        controls: small(reading.controls),
+        arcs: small(reading.arcs),
     }
 }
 
