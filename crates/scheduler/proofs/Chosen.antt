@@ -1,14 +1,14 @@
 -- Choosing a step: which steps attain a bound, and that the first which attains the remaining number less one is the chosen
 -- one. Assumes nothing.
 use Prim.Native.Nat.{ℕ, zero, suc, _-_, _^_, _≤_, _<_}
-use native.Mathlib.Nat.{le-refl, lt-irrefl, lt-of-lt-of-le}
+use native.Mathlib.Nat.{lt-irrefl}
 use native.Mathlib.Omega.{arith}
-use mathlib.Core.Path.{_≡_, refl, sym, _∙_, ap, subst}
-use mathlib.Core.Logic.{_⊎_, inl, inr, ⊎-elim, _≢_}
+use mathlib.Core.Path.{_≡_, sym, _∙_, subst}
+use mathlib.Core.Logic.{_⊎_, ⊎-elim, _≢_}
 use mathlib.Core.Bool.{Bool, true, false, not}
 use mathlib.Core.List.{List}
 use lib.Bits.{bitAnd}
-use lib.Dec.{T, leb}
+use lib.Dec.{T}
 use borrow.Author.Tests.{lt-leb, le-leb}
 use Rattle.machine.specs.Machine.{leads, finish, remaining, best}
 use Rattle.machine.proofs.Truth.{contrary, refuted, true-of, false-of, of-true, of-false}
@@ -16,7 +16,7 @@ use Rattle.machine.proofs.Sets.{le-or-lt, trichotomy, First, first-unique}
 use Rattle.machine.proofs.Finish.{leads-of, leads-next, leads-legal, best-first}
 use Rattle.machine.proofs.Search.{missing, Right, right-remaining, right-missing}
 use Rattle.meaning.specs.Graph.{Graph, operationCount, controlCount}
-use Rattle.meaning.specs.Steps.{State, machineOf, complete, legal, after}
+use Rattle.meaning.specs.Steps.{State, machineOf, complete, legal}
 use Rattle.steps.specs.Masks.{within, begun}
 use Rattle.steps.proofs.After.{begun-below}
 use Rattle.scheduler.specs.Slots.{Holds}
@@ -91,7 +91,7 @@ module _ (g : Graph) (slots : List ℕ) (used : ℕ) (s : State) (c : Choosing g
         (subst (λ (k : ℕ). k ≤ operationCount g) (right-missing (machineOf g) s n (right s n held) horizon h) (c .numbered))))
         (le-or-lt n (operationCount g))
 
-    pub number-remaining : remaining (machineOf g) s ≡ n
+    number-remaining : remaining (machineOf g) s ≡ n
     number-remaining = right-remaining (machineOf g) s n (right s n held) horizon number-small
 
     pub bound-small : n - 1 < missing

@@ -6,3 +6,4 @@ pub mod Chosen
 pub mod WriteLaws
 pub mod RowLaws
 pub mod Answering
+pub mod Corollaries

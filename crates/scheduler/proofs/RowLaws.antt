@@ -57,7 +57,7 @@ module _ (g : Graph) where
   files-length l = rows-length g l
 
   -- rows behind rows
-  pub laid-then : (writing : Bool) (a b c : List ℕ) (rows more most : ℕ) (l m : List (Row (machineOf g)))
+  laid-then : (writing : Bool) (a b c : List ℕ) (rows more most : ℕ) (l m : List (Row (machineOf g)))
       → Laid g writing a b rows more l → Laid g writing b c more most m → Room writing a (rows + length l)
       → Laid g writing a c rows most (l ++ m)
   laid-then writing a b c rows more most l m p q room = record { count = omega (arith, p .count, q .count, length-append l m); table = both writing (p .table) (q .table) room }
@@ -117,11 +117,11 @@ module _ {ℓ} {A : Type ℓ} where
 
 -- The states of the schedule: one cycle.
 module _ (g : Graph) (t w : ℕ) where
-  pub met-stays : T (complete g (met g t w .done) (met g t w .values)) → met g (suc t) w ≡ met g t w
+  met-stays : T (complete g (met g t w .done) (met g t w .values)) → met g (suc t) w ≡ met g t w
   unfolding met run
   met-stays c = rw (true-of (complete g (met g t w .done) (met g t w .values)) c) refl
 
-  pub met-clock : T (not (complete g (met g t w .done) (met g t w .values)))
+  met-clock : T (not (complete g (met g t w .done) (met g t w .values)))
       → met g (suc t) w ≡ after g (met g t w .done) (met g t w .values) (best (machineOf g) (met g t w)) w
   unfolding met run
   met-clock n = rw (false-of (complete g (met g t w .done) (met g t w .values)) n) refl
@@ -132,7 +132,7 @@ module _ (g : Graph) (t w : ℕ) where
       hidden (eqb (met g t w .values) w) (complete g (met g t w .done) (met g t w .values))
       (record { cycle = suc t; state = met g t w; step = best (machineOf g) (met g t w) } ∷ []) [] c
 
-  pub row-some : T (not (complete g (met g t w .done) (met g t w .values)))
+  row-some : T (not (complete g (met g t w .done) (met g t w .values)))
       → rowOf g t w ≡ cond (eqb (met g t w .values) w) (record { cycle = suc t; state = met g t w; step = best (machineOf g) (met g t w) } ∷ []) []
   unfolding rowOf
   row-some n =

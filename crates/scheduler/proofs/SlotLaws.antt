@@ -27,24 +27,24 @@ pub record Fits (s : State) : Type 0 where
 state-ext : (r s : State) → r .done ≡ s .done → r .values ≡ s .values → r ≡ s
 state-ext r s d v = λ i. record { done = d i; values = v i }
 
-pub slot-used : (s : State) (number : ℕ) → T (inUse (slotOf s number))
+slot-used : (s : State) (number : ℕ) → T (inUse (slotOf s number))
 unfolding inUse slotOf
 slot-used s number = le→leb (2 ^ 55) (keyOf s + number * 2 ^ 49 + 2 ^ 55) (omega arith)
 
-pub slot-state : (s : State) (number : ℕ) → Fits s → number < 2 ^ 6 → stateIn (slotOf s number) ≡ s
+slot-state : (s : State) (number : ℕ) → Fits s → number < 2 ^ 6 → stateIn (slotOf s number) ≡ s
 unfolding stateIn slotOf keyOf
 slot-state s number f h = state-ext (stateIn (slotOf s number)) s (omega (arith, f .done, f .values)) (omega (arith, f .done, f .values))
 
-pub slot-number : (s : State) (number : ℕ) → Fits s → number < 2 ^ 6 → numberIn (slotOf s number) ≡ number
+slot-number : (s : State) (number : ℕ) → Fits s → number < 2 ^ 6 → numberIn (slotOf s number) ≡ number
 unfolding numberIn slotOf keyOf
 slot-number s number f h = omega (arith, f .done, f .values)
 
 -- the key of a slot says which state it holds
-pub key-state : (slot : ℕ) (s : State) → Fits s → slot % 2 ^ 49 ≡ keyOf s → stateIn slot ≡ s
+key-state : (slot : ℕ) (s : State) → Fits s → slot % 2 ^ 49 ≡ keyOf s → stateIn slot ≡ s
 unfolding stateIn keyOf
 key-state slot s f e = state-ext (stateIn slot) s (omega (arith, f .done, f .values)) (omega (arith, f .done, f .values))
 
-pub state-key : (slot : ℕ) (s : State) → stateIn slot ≡ s → slot % 2 ^ 49 ≡ keyOf s
+state-key : (slot : ℕ) (s : State) → stateIn slot ≡ s → slot % 2 ^ 49 ≡ keyOf s
 unfolding stateIn keyOf
 state-key slot s e = omega (arith, ap (λ (r : State). r .done) e, ap (λ (r : State). r .values) e)
 

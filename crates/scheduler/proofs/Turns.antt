@@ -4,7 +4,7 @@ use Prim.Native.Nat.{ℕ, zero, suc, min, max, _+_, _-_, _^_, _≤_, _<_}
 use native.Mathlib.Nat.{le-refl, lt-irrefl, lt-of-lt-of-le}
 use native.Mathlib.Numerals.{add-one}
 use native.Mathlib.Omega.{arith}
-use mathlib.Core.Path.{_≡_, refl, sym, _∙_, ap, subst}
+use mathlib.Core.Path.{_≡_, sym, subst}
 use mathlib.Core.Logic.{_⊎_, inl, inr, ⊎-elim, _≢_}
 use mathlib.Core.Bool.{not}
 use mathlib.Core.List.{List}

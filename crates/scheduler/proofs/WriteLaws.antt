@@ -3,10 +3,10 @@ use Prim.Native.Nat.{ℕ, suc, _+_, _-_, _^_, _/_, _%_, _≤_, _<_}
 use native.Mathlib.Nat.{add-zero, mod-eq-of-lt}
 use native.Mathlib.Numerals.{add-one}
 use native.Mathlib.Omega.{arith}
-use mathlib.Core.Path.{_≡_, refl, sym, _∙_, ap, ap₂}
+use mathlib.Core.Path.{_≡_, sym, _∙_, ap, ap₂}
 use mathlib.Core.List.{List, [], _∷_, _++_, append-assoc}
-use lib.ListN.{length, take, drop, set, length-append, length-take, length-drop, take-append-drop}
-use lib.Seq.{drop-at, take-at, take-append-le, drop-append-add, drop-drop, length-take-le, take-suc-set, drop-set-lt}
+use lib.ListN.{length, take, drop, set, length-append, length-drop, take-append-drop}
+use lib.Seq.{take-at, drop-append-add, drop-drop, length-take-le, take-suc-set, drop-set-lt}
 use Rattle.meaning.specs.TableFile.{bytesOf}
 use Rattle.scheduler.specs.Writing.{written}
 
@@ -15,7 +15,7 @@ unfolding written
 written-none t at = ap (λ (k : ℕ). take at t ++ drop k t) (add-zero at) ∙ take-append-drop at t
 
 -- one byte first
-pub written-byte : (t : List ℕ) (at b : ℕ) (bytes : List ℕ) → at < length t → written (set t at b) (at + 1) bytes ≡ written t at (b ∷ bytes)
+written-byte : (t : List ℕ) (at b : ℕ) (bytes : List ℕ) → at < length t → written (set t at b) (at + 1) bytes ≡ written t at (b ∷ bytes)
 unfolding written
 written-byte t at b bytes h =
     ap₂ (λ (x y : List ℕ). x ++ (bytes ++ y)) (ap (λ (k : ℕ). take k (set t at b)) (add-one at) ∙ take-suc-set t at b h)
@@ -33,7 +33,7 @@ written-length t at bytes h =
     ∙ omega (arith, length-drop (at + length bytes) t)
 
 -- more bytes after the first
-pub written-more : (t : List ℕ) (at : ℕ) (a b : List ℕ) → at + length a ≤ length t
+written-more : (t : List ℕ) (at : ℕ) (a b : List ℕ) → at + length a ≤ length t
     → written (written t at a) (at + length a) b ≡ written t at (a ++ b)
 unfolding written
 written-more t at a b h = ap (λ (x : List ℕ). take (at + length a) x ++ (b ++ drop (at + length a + length b) x)) (sym (append-assoc x a d))

@@ -1,7 +1,7 @@
 -- What the search asks of the steps and words that it goes through.
 use Prim.Native.Nat.{ℕ, _≤_, _<_, _^_}
 use mathlib.Core.Logic.{_≢_}
-use mathlib.Core.Bool.{Bool, cond, not}
+use mathlib.Core.Bool.{cond, not}
 use lib.Dec.{T, eqb}
 use Rattle.meaning.specs.Graph.{Graph, operationCount}
 use Rattle.meaning.specs.Steps.{State, legal}

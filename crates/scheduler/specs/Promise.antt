@@ -5,13 +5,16 @@ use mathlib.Core.Bool.{cond}
 use mathlib.Core.List.{List, [], _∷_, _++_}
 use lib.ListN.{length, drop, replicate}
 use lib.Dec.{ltb}
-use Rattle.machine.specs.Refusals.{Line, Verdict, taken, refused, placeless, judge}
+use Rattle.machine.specs.Refusals.{Line, taken, refused, placeless, judge}
 use Rattle.machine.specs.Machine.{remaining, stateCount}
 use Rattle.machine.specs.Tables.{scheduleRows}
 use Rattle.meaning.specs.Graph.{Graph}
 use Rattle.meaning.specs.Steps.{machineOf}
 use Rattle.meaning.specs.TableFile.{scheduleFile}
 use Rattle.meaning.specs.Answers.{Answer, answer, isTaken, scheduleLines, scheduler, slotsAfter, tableAfter}
+use Rattle.steps.specs.Masks.{classesOf}
+use Rattle.scheduler.specs.Slots.{Holds}
+use Rattle.scheduler.specs.Search.{Accepted, Store}
 use Rattle.scheduler.specs.declared.Scheduled.{Scheduled}
 use Rattle.scheduler.specs.declared.Scheduled.the-variants.{Refused, Done}
 
@@ -25,7 +28,7 @@ pub record Promised (file slots table : List ℕ) (r : Scheduled) (slotsLast tab
   pub clears : slotsLast ≡ slotsAfter file slots table
   pub writes : tableLast ≡ tableAfter file slots table
 
--- the answer and the table buffer of a graph, for the lines that are left of the refusal table
+-- Inside: the answer and the table buffer of a graph, for the lines that are left of the refusal table.
 pub record Answered (g : Graph) (lines : List Line) (states : ℕ) (before after : List ℕ) (r : Scheduled) : Type 0 where
   pub answers : valuesOf r ≡ answer (judge lines) (remaining (machineOf g) (machineOf g .start)) (length (scheduleRows (machineOf g))) states
   pub writes : after ≡ cond (isTaken (judge lines)) (scheduleFile g ++ drop (length (scheduleFile g)) before) before
@@ -35,3 +38,19 @@ unfoldable pub laterLines : Graph → ℕ → List Line
 laterLines g room =
     placeless 13 (ltb (machineOf g .horizon) (remaining (machineOf g) (machineOf g .start)))
     ∷ placeless 14 (ltb room (length (scheduleFile g))) ∷ []
+
+-- what laying the table asks: the reachable states are held, the start with this number
+pub record LayAsks (g : Graph) (classes slots : List ℕ) (used number : ℕ) : Type 0 where
+  pub accepted : Accepted g
+  pub classed : classes ≡ classesOf g
+  pub store : Store g slots used
+  pub held : Holds slots (machineOf g .start) number
+
+-- and what it gives
+abbrev pub LayGives : Graph → ℕ → List ℕ → List ℕ → Scheduled → Type 0
+LayGives g states before after r = Answered g (laterLines g (length before)) states before after r
+
+-- what is given for a graph that passes refusals 1 to 11
+pub record SolveGives (g : Graph) (slots slotsLast table tableLast : List ℕ) (r : Scheduled) : Type 0 where
+  pub answered : Answered g (scheduleLines g (length slots) (length table)) (stateCount (machineOf g)) table tableLast r
+  pub cleared : slotsLast ≡ replicate (length slots) 0

@@ -7,10 +7,11 @@ use lib.ListN.{length, getD}
 use lib.Dec.{T, eqb}
 use Rattle.machine.specs.Sets.{listBelow}
 use Rattle.machine.specs.Machine.{remaining, best, run}
-use Rattle.machine.specs.Tables.{Row}
+use Rattle.machine.specs.Tables.{Row, scheduleRows}
 use Rattle.meaning.specs.Graph.{Graph, operationCount, controlCount}
 use Rattle.meaning.specs.Steps.{State, machineOf, complete}
 use Rattle.meaning.specs.TableFile.{rowFiles}
+use Rattle.steps.specs.Masks.{classesOf}
 use Rattle.scheduler.specs.Search.{Accepted, Held, Store}
 use Rattle.scheduler.specs.Writing.{written}
 
@@ -61,3 +62,28 @@ pub record Laid (g : Graph) (writing : Bool) (before after : List ℕ) (rows mor
 -- the buffer has room for so many rows, if there is writing
 abbrev pub Room : Bool → List ℕ → ℕ → Type 0
 Room writing table rows = T writing → 8 + 8 * rows ≤ length table
+
+-- what going one cycle on asks: the states of all words after `past` cycles, and room for the rows of the cycle
+pub record CycleAsks (g : Graph) (classes slots : List ℕ) (used past : ℕ) (done values table : List ℕ) (writing : Bool) (rows : ℕ) : Type 0 where
+  pub planning : Planning g slots used
+  pub classed : classes ≡ classesOf g
+  pub meets : Meets g past 0 (2 ^ controlCount g) done values
+  pub early : past < 24
+  pub few : rows ≤ 16 * past
+  pub room : Room writing table (rows + length (cycleRows g past))
+
+-- and what it gives
+pub record CycleGives (g : Graph) (past : ℕ) (writing : Bool) (before after : List ℕ) (rows more : ℕ) (done values : List ℕ) : Type 0 where
+  pub laid : Laid g writing before after rows more (cycleRows g past)
+  pub meets : Meets g (suc past) 0 (2 ^ controlCount g) done values
+
+-- what planning all cycles asks
+pub record PlanAsks (g : Graph) (classes slots : List ℕ) (used cycles : ℕ) (table : List ℕ) (writing : Bool) : Type 0 where
+  pub planning : Planning g slots used
+  pub classed : classes ≡ classesOf g
+  pub number : cycles ≡ remaining (machineOf g) (machineOf g .start)
+  pub room : Room writing table (length (scheduleRows (machineOf g)))
+
+-- and what it gives
+abbrev pub PlanGives : Graph → Bool → List ℕ → List ℕ → ℕ → Type 0
+PlanGives g writing before after rows = Laid g writing before after 0 rows (scheduleRows (machineOf g))

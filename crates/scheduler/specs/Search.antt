@@ -1,13 +1,13 @@
 -- What the search keeps from state to state. The public promise does not speak of it.
 use Prim.Native.Nat.{ℕ, suc, _+_, _^_, _≤_, _<_}
 use mathlib.Core.Path.{_≡_}
-use mathlib.Core.Logic.{_⊎_, _≢_}
-use mathlib.Core.Bool.{Bool, cond, not}
+use mathlib.Core.Logic.{_⊎_}
+use mathlib.Core.Bool.{not}
 use mathlib.Core.List.{List}
 use lib.ListN.{length}
-use lib.Dec.{T, eqb, ltb}
+use lib.Dec.{T}
 use Rattle.machine.specs.Machine.{Reachable, stateCount}
-use Rattle.machine.proofs.Search.{Right, Worst, Least, Good}
+use Rattle.machine.proofs.Search.{Right, Good}
 use Rattle.meaning.specs.Graph.{Graph, operationCount, classCount, controlCount}
 use Rattle.meaning.specs.Steps.{State, machineOf, legal, complete, after}
 use Rattle.meaning.proofs.Taken.{Taken}

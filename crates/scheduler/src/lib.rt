@@ -12,16 +12,9 @@ use crate::table::HEADER_BYTES;
 use crate::table::ROW_BYTES;
 use crate::table::put_header;
 use reader::Read;
-ghost use mathlib.Core.Path.{_≡_};
-ghost use lib.ListN.{length, replicate};
-ghost use Rattle.meaning.specs.Answers.{scheduleLines};
-ghost use Rattle.machine.specs.Machine.{stateCount};
-ghost use Rattle.meaning.specs.Steps.{machineOf};
 ghost use Rattle.steps.specs.Parts.{graphOf};
-ghost use Rattle.steps.specs.Masks.{classesOf};
-ghost use Rattle.scheduler.specs.Slots.{Holds};
-ghost use Rattle.scheduler.specs.Search.{Accepted, Store};
-ghost use Rattle.scheduler.specs.Promise.{Promised, Answered, laterLines};
+ghost use Rattle.scheduler.specs.Search.{Accepted};
+ghost use Rattle.scheduler.specs.Promise.{Promised, LayAsks, LayGives, SolveGives};
 
 // What the scheduler answers.
 pub enum Scheduled {
@@ -48,11 +41,8 @@ fn lay(
     number: u32,
     table: &mut [u8],
 ) -> Scheduled
-    requires { ⌜ now classes ≡ classesOf (graphOf (now limits) (now operations) (now controls) (now arcs)) ⌝ }
-    requires { ⌜ Accepted (graphOf (now limits) (now operations) (now controls) (now arcs)) ⌝ }
-    requires { ⌜ Store (graphOf (now limits) (now operations) (now controls) (now arcs)) (now slots) used ⌝ }
-    requires { ⌜ Holds (now slots) (record { done = 0; values = 0 }) number ⌝ }
-    ensures { λ r. ⌜ Answered (graphOf (now (limits .entry)) (now (operations .entry)) (now (controls .entry)) (now (arcs .entry))) (laterLines (graphOf (now (limits .entry)) (now (operations .entry)) (now (controls .entry)) (now (arcs .entry))) (length (now (table .entry)))) used (now (table .entry)) (now (table .exit)) r ⌝ }
+    requires { ⌜ LayAsks (graphOf (now limits) (now operations) (now controls) (now arcs)) (now classes) (now slots) used number ⌝ }
+    ensures { λ r. ⌜ LayGives (graphOf (now (limits .entry)) (now (operations .entry)) (now (controls .entry)) (now (arcs .entry))) used (now (table .entry)) (now (table .exit)) r ⌝ }
 {
     if operations.len() / 3 < number as usize {
         return Scheduled::Refused {
@@ -108,8 +98,7 @@ fn solve(
     table: &mut [u8],
 ) -> Scheduled
     requires { ⌜ Accepted (graphOf (now limits) (now operations) (now controls) (now arcs)) ⌝ }
-    ensures answer { λ r. ⌜ Answered (graphOf (now (limits .entry)) (now (operations .entry)) (now (controls .entry)) (now (arcs .entry))) (scheduleLines (graphOf (now (limits .entry)) (now (operations .entry)) (now (controls .entry)) (now (arcs .entry))) (length (now (slots .entry))) (length (now (table .entry)))) (stateCount (machineOf (graphOf (now (limits .entry)) (now (operations .entry)) (now (controls .entry)) (now (arcs .entry))))) (now (table .entry)) (now (table .exit)) r ⌝ }
-    ensures cleared { λ r. ⌜ now (slots .exit) ≡ replicate (length (now (slots .entry))) 0 ⌝ }
+    ensures { λ r. ⌜ SolveGives (graphOf (now (limits .entry)) (now (operations .entry)) (now (controls .entry)) (now (arcs .entry))) (now (slots .entry)) (now (slots .exit)) (now (table .entry)) (now (table .exit)) r ⌝ }
 {
     let classes = steps::classes(operations);
     clear(slots);

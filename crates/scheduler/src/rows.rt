@@ -9,18 +9,17 @@ use crate::table::put_row;
 ghost use mathlib.Core.Path.{_≡_};
 ghost use mathlib.Core.Bool.{cond};
 ghost use mathlib.Core.List.{List, [], _∷_};
-ghost use Prim.Native.Nat.{ℕ, suc, _+_, _*_, _^_, _≤_, _<_};
+ghost use Prim.Native.Nat.{ℕ, _+_, _^_, _≤_, _<_};
 ghost use lib.ListN.{length};
 ghost use lib.Dec.{T, eqb};
-ghost use Rattle.machine.specs.Machine.{leads, finish, remaining, best};
-ghost use Rattle.machine.specs.Tables.{scheduleRows};
+ghost use Rattle.machine.specs.Machine.{leads, finish, best};
 ghost use Rattle.meaning.specs.Graph.{Graph};
 ghost use Rattle.meaning.specs.Steps.{machineOf, legal};
 ghost use Rattle.steps.specs.Parts.{graphOf};
 ghost use Rattle.steps.specs.Masks.{classesOf};
 ghost use Rattle.scheduler.specs.Slots.{InOrder, Holds};
 ghost use Rattle.scheduler.specs.Search.{Held};
-ghost use Rattle.scheduler.specs.Rows.{Choosing, Planning, Meets, cycleRows, Laid, Room};
+ghost use Rattle.scheduler.specs.Rows.{Choosing, Laid, Room, CycleAsks, CycleGives, PlanAsks, PlanGives};
 
 // The number that is held with a state.
 fn number_of(slots: &[u64], used: usize, done: u32, values: u32) -> u32
@@ -140,13 +139,8 @@ fn cycle(
     writing: bool,
     rows: usize,
 ) -> usize
-    requires { ⌜ now classes ≡ classesOf (graphOf (now limits) (now operations) (now controls) (now arcs)) ⌝ }
-    requires { ⌜ Planning (graphOf (now limits) (now operations) (now controls) (now arcs)) (now slots) used ⌝ }
-    requires { ⌜ Meets (graphOf (now limits) (now operations) (now controls) (now arcs)) past 0 (2 ^ length (now controls)) (now done) (now values) ⌝ }
-    requires { ⌜ (past < 24) × (rows ≤ 16 * past) ⌝ }
-    requires { ⌜ Room writing (now table) (rows + length (cycleRows (graphOf (now limits) (now operations) (now controls) (now arcs)) past)) ⌝ }
-    ensures laid { λ r. ⌜ Laid (graphOf (now (limits .entry)) (now (operations .entry)) (now (controls .entry)) (now (arcs .entry))) writing (now (table .entry)) (now (table .exit)) rows r (cycleRows (graphOf (now (limits .entry)) (now (operations .entry)) (now (controls .entry)) (now (arcs .entry))) past) ⌝ }
-    ensures meets { λ r. ⌜ Meets (graphOf (now (limits .entry)) (now (operations .entry)) (now (controls .entry)) (now (arcs .entry))) (suc past) 0 (2 ^ length (now (controls .entry))) (now (done .exit)) (now (values .exit)) ⌝ }
+    requires { ⌜ CycleAsks (graphOf (now limits) (now operations) (now controls) (now arcs)) (now classes) (now slots) used past (now done) (now values) (now table) writing rows ⌝ }
+    ensures { λ r. ⌜ CycleGives (graphOf (now (limits .entry)) (now (operations .entry)) (now (controls .entry)) (now (arcs .entry))) past writing (now (table .entry)) (now (table .exit)) rows r (now (done .exit)) (now (values .exit)) ⌝ }
 {
     let mut rows = rows;
     let mut word: usize = 0;
@@ -189,11 +183,8 @@ pub(crate) fn plan(
     table: &mut [u8],
     writing: bool,
 ) -> usize
-    requires { ⌜ now classes ≡ classesOf (graphOf (now limits) (now operations) (now controls) (now arcs)) ⌝ }
-    requires { ⌜ Planning (graphOf (now limits) (now operations) (now controls) (now arcs)) (now slots) used ⌝ }
-    requires { ⌜ cycles ≡ remaining (machineOf (graphOf (now limits) (now operations) (now controls) (now arcs))) (record { done = 0; values = 0 }) ⌝ }
-    requires { ⌜ Room writing (now table) (length (scheduleRows (machineOf (graphOf (now limits) (now operations) (now controls) (now arcs))))) ⌝ }
-    ensures { λ r. ⌜ Laid (graphOf (now (limits .entry)) (now (operations .entry)) (now (controls .entry)) (now (arcs .entry))) writing (now (table .entry)) (now (table .exit)) 0 r (scheduleRows (machineOf (graphOf (now (limits .entry)) (now (operations .entry)) (now (controls .entry)) (now (arcs .entry))))) ⌝ }
+    requires { ⌜ PlanAsks (graphOf (now limits) (now operations) (now controls) (now arcs)) (now classes) (now slots) used cycles (now table) writing ⌝ }
+    ensures { λ r. ⌜ PlanGives (graphOf (now (limits .entry)) (now (operations .entry)) (now (controls .entry)) (now (arcs .entry))) writing (now (table .entry)) (now (table .exit)) r ⌝ }
 {
     let mut done = [0u32; 16];
     let mut values = [0u32; 16];

@@ -1,9 +1,8 @@
 // The work slots: how a state lies in one, and the look-up of a state with its number. Nothing else looks into them.
 ghost use mathlib.Core.Path.{_≡_};
-ghost use Prim.Native.Nat.{_<_, _^_};
+ghost use Prim.Native.Nat.{_<_};
 ghost use lib.ListN.{length, replicate};
-ghost use Rattle.meaning.specs.Steps.{State};
-ghost use Rattle.scheduler.specs.Slots.{keyOf, slotOf, InOrder, Finds, Holds, Added};
+ghost use Rattle.scheduler.specs.Slots.{keyOf, slotOf, InOrder, Finds, Added};
 
 // What a look-up finds: the number that is held with the state, or that the state is not held.
 pub(crate) enum Found {
@@ -38,10 +37,10 @@ fn pack(done: u32, values: u32, number: u32) -> u64
 pub(crate) fn clear(slots: &mut [u64])
     ensures { λ _. ⌜ now (slots .exit) ≡ replicate (length (now (slots .entry))) 0 ⌝ }
 {
-    let mut i = 0;
-    while i < slots.len() {
-        slots[i] = 0;
-        i += 1;
+    let mut at = 0;
+    while at < slots.len() {
+        slots[at] = 0;
+        at += 1;
     }
 }
 

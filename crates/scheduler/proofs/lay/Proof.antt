@@ -1,5 +1,5 @@
 -- `scheduler::lay` meets its contract. Assumes nothing.
-use Prim.Native.Nat.{ℕ, _+_, _*_, _≤_, _<_}
+use Prim.Native.Nat.{ℕ, _+_, _*_, _≤_}
 use native.Mathlib.Nat.{zero-add}
 use native.Mathlib.Omega.{arith}
 use mathlib.Core.Path.{_≡_, refl, sym, _∙_, ap, subst}
@@ -36,11 +36,11 @@ module _ (c : tie.Else1) where
 
   plans : Planning (graph entry) (entry .args .slots .now) (entry .args .used)
   plans =
-      planning (graph entry) (entry .pre .1 .0) (entry .args .slots .now) (entry .args .used) (entry .args .number) (entry .pre .1 .1 .0) (entry .pre .1 .1 .1) low
+      planning (graph entry) (entry .pre .accepted) (entry .args .slots .now) (entry .args .used) (entry .args .number) (entry .pre .store) (entry .pre .held) low
 
   number-is : entry .args .number ≡ remaining (machineOf (graph entry)) (machineOf (graph entry) .start)
   number-is =
-      start-number (graph entry) (entry .pre .1 .0) (entry .args .slots .now) (entry .args .used) (entry .args .number) (entry .pre .1 .1 .0) (entry .pre .1 .1 .1) low
+      start-number (graph entry) (entry .pre .accepted) (entry .args .slots .now) (entry .args .used) (entry .args .number) (entry .pre .store) (entry .pre .held) low
 
 -- the rows are counted
 module _ (c : tie.After-plan) where
@@ -54,7 +54,7 @@ module _ (c : tie.After-plan) where
   rows-are = c .plan .ensures .count ∙ zero-add (length (scheduleRows (machineOf (graph start))))
 
   few : c .plan .result ≤ 384
-  few = omega (arith, rows-are, few-rows (graph start) (start .pre .1 .0) (plans (c .before .before) .numbered))
+  few = omega (arith, rows-are, few-rows (graph start) (start .pre .accepted) (plans (c .before .before) .numbered))
 
   file-is : length (scheduleFile (graph start)) ≡ 8 + 8 * c .plan .result
   file-is = schedule-length (graph start) ∙ ap (λ (k : ℕ). 8 + 8 * k) (sym rows-are)
@@ -69,12 +69,12 @@ returns c =
     let g = graph e in
     answered-refused g (laterLines g (length (e .args .table .now))) (e .args .used) (e .args .table .now) 13 0
     (thirteen g (length (e .args .table .now))
-    (no-number g (e .pre .1 .0) (e .args .slots .now) (e .args .used) (e .args .number) (e .pre .1 .1 .0) (e .pre .1 .1 .1) (c .if1 .taken)))
+    (no-number g (e .pre .accepted) (e .args .slots .now) (e .args .used) (e .args .number) (e .pre .store) (e .pre .held) (c .if1 .taken)))
 
 plan-requires : tie.Need-plan-requires
 plan-requires c κs =
     let found = c .before in
-    (entry found .pre .0, (plans found, (number-is found, λ t. absurd t)))
+    record { planning = plans found; classed = entry found .pre .classed; number = number-is found; room = λ t. absurd t }
 
 mul-if2 : tie.Need-mul-if2
 mul-if2 c = omega (arith, few (c .before .before))
@@ -101,21 +101,18 @@ cast-put-header c = omega (arith, few (c .before .before .before .before))
 put-header-requires : tie.Need-put-header-requires
 put-header-requires c κs =
     let p = c .before .before .before .before in
-    (omega (arith, c .before .if2 .left), omega (arith, low (p .before .before), start p .pre .1 .0 .operations))
+    (omega (arith, c .before .if2 .left), omega (arith, low (p .before .before), start p .pre .accepted .operations))
 
 plan-requires-2 : tie.Need-plan-requires-2
 plan-requires-2 c κs =
     let p = c .before .before .before .before .before .before .before .before in
-    let found = p .before .before in (
-      entry found .pre .0,
-      (
-        plans found,
-        (
-          number-is found,
-          λ t. omega (arith, c .before .before .before .put-header .kept .0, c .before .before .before .before .before .if2 .left, rows-are p),
-        ),
-      ),
-    )
+    let found = p .before .before in
+    record {
+      planning = plans found;
+      classed = entry found .pre .classed;
+      number = number-is found;
+      room = λ t. omega (arith, c .before .before .before .put-header .kept .0, c .before .before .before .before .before .if2 .left, rows-are p);
+    }
 
 same-length-2 : tie.Need-same-length-2
 same-length-2 c =

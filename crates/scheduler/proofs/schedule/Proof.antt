@@ -115,7 +115,7 @@ returns-2 c =
     let table = a .table .now in
     promised-taken (file t) slots table (solved .last .1 .1 .1 .1 .0) (solved .last .1 .1 .1 .1 .1 .0) (solved .result) (counts t .verdict)
     (subst (λ (g : Graph). Answered g (scheduleLines g (length slots) (length table)) (stateCount (machineOf g)) table (solved .last .1 .1 .1 .1 .1 .0) (solved .result))
-    (parts t .graph) (solved .ensures .0)) (solved .ensures .1)
+    (parts t .graph) (solved .ensures .answered)) (solved .ensures .cleared)
 
 pub schedule-spec : {M : Type 1} → statement M
 schedule-spec =

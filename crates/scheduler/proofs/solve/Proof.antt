@@ -10,7 +10,6 @@ use Rattle.meaning.specs.Graph.{Graph}
 use Rattle.meaning.specs.Steps.{machineOf}
 use Rattle.meaning.specs.Answers.{scheduleLines}
 use Rattle.steps.specs.Parts.{graphOf}
-use Rattle.scheduler.specs.declared.search.Settled.{Settled}
 use Rattle.scheduler.specs.Search.{Ready, Settles, SettledTo}
 use Rattle.scheduler.specs.Promise.{laterLines}
 use Rattle.scheduler.proofs.SearchLaws.{start-ready, all-met}
@@ -35,65 +34,79 @@ module _ (c : tie.After-settle) where
   abbrev entry : tie.Start
   entry = c .before .before .before .before .before .before .before .before .before .before .before .before .before .before
 
+  abbrev zeros : List ℕ
+  zeros = c .before .before .before .before .before .clear .last .0
+
   abbrev slots : List ℕ
   slots = c .settle .last .1 .1 .1 .1 .1 .0
 
   same : length slots ≡ length (entry .args .slots .now)
   same = c .settle .kept .1 .1 .1 .1 .1 .0 ∙ c .before .before .before .before .before .clear .kept .0
 
-  -- with a number
-  module _ (number used : ℕ) (e : SettledTo (graph entry) (c .before .before .before .before .before .clear .last .0) slots (machineOf (graph entry) .start) (Settled.Number number used)) where
-    count : used ≡ stateCount (machineOf (graph entry))
-    count = all-met (graph entry) slots used number (entry .pre) (e .grown .store) (e .held)
+-- and has a number: all reachable states are held
+module _ (c : tie.After-settled) where
+  abbrev from : tie.After-settle
+  from = c .before .before .before .before
 
-    enough : stateCount (machineOf (graph entry)) ≤ length (entry .args .slots .now)
-    enough = omega (arith, count, same, e .grown .store .order .within)
+  abbrev used : ℕ
+  used = c .settled .given .0 .1 .0
+
+  settles : Settles (graph (entry from)) (zeros from) (slots from) (machineOf (graph (entry from)) .start) (c .settled .given .0 .0) used
+  settles =
+      subst (SettledTo (graph (entry from)) (zeros from) (slots from) (machineOf (graph (entry from)) .start)) (c .settled .given .1)
+      (from .settle .ensures)
+
+  count : used ≡ stateCount (machineOf (graph (entry from)))
+  count = all-met (graph (entry from)) (slots from) used (c .settled .given .0 .0) (entry from .pre) (settles .grown .store) (settles .held)
+
+  enough : stateCount (machineOf (graph (entry from))) ≤ length (entry from .args .slots .now)
+  enough = omega (arith, count, same from, settles .grown .store .order .within)
 
 same-length : tie.Need-same-length
 same-length c = c .before .before .clear2 .kept .0 ∙ same (c .before .before .before .before .before .before .before .before)
 
 returns : tie.Need-returns
 returns c =
-    let settled = c .before .before .before .before .before .before .before .before in
-    let start = entry settled in
-    let g = graph start in
-    let room = length (start .args .table .now) in
-    let lent = length (start .args .slots .now) in
-    let few : lent < stateCount (machineOf g) = subst (λ (k : ℕ). k < stateCount (machineOf g)) (settled .before .before .before .before .before .clear .kept .0)
-    (subst (SettledTo g (settled .before .before .before .before .before .clear .last .0) (slots settled) (machineOf g .start)) (c .before .before .before .before .enum-told .given .1) (settled .settle .ensures)) in (
-      answered-refused g (scheduleLines g lent room) (stateCount (machineOf g)) (start .args .table .now) 12 0 (twelve g lent room few),
-      c .before .before .clear2 .ensures ∙ ap (λ (k : ℕ). replicate k 0) (same settled),
-    )
+    let from = c .before .before .before .before .before .before .before .before in
+    let g = graph (entry from) in
+    let t = entry from .args .table .now in
+    let lent = length (entry from .args .slots .now) in
+    let full = subst (SettledTo g (zeros from) (slots from) (machineOf g .start)) (c .before .before .before .before .enum-told .given .1) (from .settle .ensures) in
+    record {
+      answered = answered-refused g (scheduleLines g lent (length t)) (stateCount (machineOf g)) t 12 0
+          (twelve g lent (length t) (subst (λ (k : ℕ). k < stateCount (machineOf g)) (from .before .before .before .before .before .clear .kept .0) full));
+      cleared = c .before .before .clear2 .ensures ∙ ap (λ (k : ℕ). replicate k 0) (same from);
+    }
 
 lay-requires : tie.Need-lay-requires
 lay-requires c κs =
-    let settled = c .before .before .before .before .before .before .before .before in
-    let start = entry settled in
-    let a = start .args in
-    let done = subst (SettledTo (graph start) (settled .before .before .before .before .before .clear .last .0) (slots settled) (machineOf (graph start) .start)) (c .before .before .before .before .settled .given .1) (settled .settle .ensures) in
-    (settled .before .before .before .before .before .before .before .classes .ensures (a .limits .now) (a .controls .now) (a .arcs .now), (start .pre, (done .grown .store, done .held)))
+    let known = c .before .before .before .before in
+    let a = entry (from known) .args in
+    record {
+      accepted = entry (from known) .pre;
+      classed = from known .before .before .before .before .before .before .before .classes .ensures (a .limits .now) (a .controls .now) (a .arcs .now);
+      store = settles known .grown .store;
+      held = settles known .held;
+    }
 
 same-length-2 : tie.Need-same-length-2
-same-length-2 c = c .before .before .clear3 .kept .0 ∙ same (c .before .before .before .before .before .before .before .before .before .before .before .before .before .before .before)
+same-length-2 c = c .before .before .clear3 .kept .0 ∙ same (from (c .before .before .before .before .before .before .before .before .before .before .before))
 
 same-length-3 : tie.Need-same-length-3
 same-length-3 c = c .before .before .before .before .before .before .lay .kept .1 .1 .1 .1 .1 .1 .1 .1 .0
 
 returns-2 : tie.Need-returns-2
 returns-2 c =
-    let settled = c .before .before .before .before .before .before .before .before .before .before .before .before .before .before .before in
-    let start = entry settled in
-    let g = graph start in
-    let t = start .args .table .now in
-    let lent = length (start .args .slots .now) in
-    let number = c .before .before .before .before .before .before .before .before .before .before .before .settled .given .0 .0 in
-    let used = c .before .before .before .before .before .before .before .before .before .before .before .settled .given .0 .1 .0 in
+    let known = c .before .before .before .before .before .before .before .before .before .before .before in
+    let g = graph (entry (from known)) in
+    let t = entry (from known) .args .table .now in
+    let lent = length (entry (from known) .args .slots .now) in
     let laid = c .before .before .before .before .before .before in
-    let done = subst (SettledTo g (settled .before .before .before .before .before .clear .last .0) (slots settled) (machineOf g .start)) (c .before .before .before .before .before .before .before .before .before .before .before .settled .given .1) (settled .settle .ensures) in (
-      answered-same g (laterLines g (length t)) (scheduleLines g lent (length t)) used (stateCount (machineOf g)) t (laid .lay .last .1 .1 .1 .1 .1 .1 .1 .1 .0) (laid .lay .result)
-          (not-twelve g lent (length t) (enough settled number used done)) (count settled number used done) (laid .lay .ensures),
-      c .before .before .clear3 .ensures ∙ ap (λ (k : ℕ). replicate k 0) (same settled),
-    )
+    record {
+      answered = answered-same g (laterLines g (length t)) (scheduleLines g lent (length t)) (used known) (stateCount (machineOf g)) t
+          (laid .lay .last .1 .1 .1 .1 .1 .1 .1 .1 .0) (laid .lay .result) (not-twelve g lent (length t) (enough known)) (count known) (laid .lay .ensures);
+      cleared = c .before .before .clear3 .ensures ∙ ap (λ (k : ℕ). replicate k 0) (same (from known));
+    }
 
 pub solve-spec : {M : Type 1} → statement M
 solve-spec =

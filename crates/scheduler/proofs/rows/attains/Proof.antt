@@ -1,15 +1,13 @@
 -- `scheduler::rows::attains` meets its contract. Assumes nothing.
-use Prim.Native.Nat.{ℕ, suc, _-_, _^_, _≤_, _<_}
+use Prim.Native.Nat.{ℕ, suc, _-_, _≤_, _<_}
 use native.Mathlib.Nat.{lt-of-lt-of-le}
 use native.Mathlib.Omega.{arith}
-use mathlib.Core.Path.{_≡_, sym, ap₂, subst}
+use mathlib.Core.Path.{sym, ap₂, subst}
 use mathlib.Core.List.{List, []}
 use lib.Dec.{T}
 use lib.Pow.{pow-mono}
-use Rattle.machine.specs.Machine.{finish}
-use Rattle.machine.proofs.Sets.{has-zero, none-any}
 use Rattle.meaning.specs.Graph.{controlCount}
-use Rattle.meaning.specs.Steps.{State, machineOf, legal, after}
+use Rattle.meaning.specs.Steps.{State, legal, after}
 use Rattle.meaning.proofs.Legal.{values-below}
 use Rattle.steps.specs.Parts.{graphOf}
 use Rattle.steps.specs.Masks.{within, begun}
@@ -19,7 +17,6 @@ use Rattle.scheduler.specs.Moves.{WordAbove}
 use Rattle.scheduler.specs.Search.{Held}
 use Rattle.scheduler.specs.Rows.{Choosing}
 use Rattle.scheduler.proofs.Moves.{nothing-within}
-use Rattle.scheduler.proofs.Turns.{next}
 use Rattle.scheduler.proofs.Chosen.{Attained, next-held, attained-none, attained-next, attained-all, attained-not}
 use borrow.Author.Needs.{needs}
 use Rattle.scheduler.proofs.rows.attains.Statement.{statement}

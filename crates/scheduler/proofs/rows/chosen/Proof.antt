@@ -1,15 +1,11 @@
 -- `scheduler::rows::chosen` meets its contract. Assumes nothing.
-use Prim.Native.Nat.{ℕ, _-_, _^_}
-use native.Mathlib.Omega.{arith}
+use Prim.Native.Nat.{_-_, _^_}
 use mathlib.Core.Path.{sym, _∙_, subst}
 use lib.Pow.{pow-pos}
 use Rattle.meaning.specs.Graph.{operationCount, controlCount}
 use Rattle.meaning.specs.Steps.{State}
 use Rattle.steps.specs.Parts.{graphOf}
-use Rattle.scheduler.specs.Slots.{Holds}
 use Rattle.scheduler.specs.Moves.{upTo}
-use Rattle.scheduler.specs.Search.{Held}
-use Rattle.scheduler.specs.Rows.{Choosing}
 use Rattle.scheduler.proofs.Moves.{step-found}
 use Rattle.scheduler.proofs.Turns.{lawful-steps, tried-fewer}
 use Rattle.scheduler.proofs.SearchLaws.{reachable-values}

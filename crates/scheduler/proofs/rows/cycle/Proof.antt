@@ -10,13 +10,11 @@ use lib.ListN.{length, getD}
 use lib.Dec.{T, eqb}
 use lib.Pow.{pow-mono}
 use borrow.Author.Tests.{eq-eqb}
-use borrow.Author.Needs.{needs}
 use Rattle.machine.specs.Sets.{listBelow}
-use Rattle.machine.specs.Machine.{best}
 use Rattle.machine.proofs.Truth.{of-true, of-false}
 use Rattle.machine.proofs.Sets.{list-length}
 use Rattle.meaning.specs.Graph.{Graph, controlCount}
-use Rattle.meaning.specs.Steps.{State, machineOf, complete, after}
+use Rattle.meaning.specs.Steps.{State, complete, after}
 use Rattle.steps.specs.Parts.{graphOf}
 use Rattle.scheduler.specs.Rows.{Choosing, Meets, stateOf, rowOf, cycleRows, Laid, Room}
 use Rattle.scheduler.proofs.SearchLaws.{reachable-values}
@@ -42,7 +40,7 @@ graph e = graphOf (e .args .limits .now) (e .args .operations .now) (e .args .co
 
 few : (e : Entry) → length (e .args .controls .now) ≤ 4
 unfolding controlCount
-few e = e .pre .1 .0 .accepted .controls
+few e = e .pre .planning .accepted .controls
 
 -- the word is one of the words, of which there are at most 16
 module _ (c : tie.In-loop Inv-loop μ-loop) where
@@ -74,7 +72,7 @@ module _ (c : tie.Else1 Inv-loop μ-loop) where
       let g = graph (entry turn) in
       let at = here g (a .past) (l .word) (l .done) (l .values) (l .inv .1) (in-words turn) in
       subst (Choosing g (a .slots .now) (a .used)) (sym at)
-      (met-choosing g (a .slots .now) (a .used) (entry turn .pre .1 .0) (a .past) (l .word) (in-words turn)
+      (met-choosing g (a .slots .now) (a .used) (entry turn .pre .planning) (a .past) (l .word) (in-words turn)
       (subst (λ (s : State). T (not (complete g (s .done) (s .values)))) at left))
 
 -- and its row
@@ -94,7 +92,7 @@ loop-holds : tie.Need-loop-holds Inv-loop μ-loop
 unfolding listBelow controlCount
 loop-holds c =
     let start = c .before .before .before .before .before .before in
-    let meets = start .pre .1 .1 .0 in (
+    let meets = start .pre .meets in (
       zero-le,
       record {
         gone = record { done-size = meets .done-size; values-size = meets .values-size; states = λ w h k. absurd (not-suc-le-zero k) };
@@ -137,20 +135,20 @@ loop-again c =
       omega (arith, in-words turn),
       going-stays g (a .past) (l .word) (l .done) (l .values) (l .inv .1) (in-words turn) done,
       turn-laid g (rowOf g (a .past)) (2 ^ controlCount g) (l .word) (in-words turn) (a .writing) (a .table .now) (l .table) (a .rows) (l .rows) (l .inv .2)
-          (start .pre .1 .1 .1 .1) (l .table) (l .rows)
+          (start .pre .room) (l .table) (l .rows)
           (subst (Laid g (a .writing) (l .table) (l .table) (l .rows) (l .rows))
           (sym (row-none g (a .past) (l .word) (subst (λ (s : State). T (complete g (s .done) (s .values))) at done)))
           (laid-none g (a .writing) (l .table) (l .rows))),
     )
 
 chosen-requires : tie.Need-chosen-requires Inv-loop μ-loop
-chosen-requires c κs = (entry (turn c) .pre .0, choosing c)
+chosen-requires c κs = (entry (turn c) .pre .classed, choosing c)
 
 cast-place : tie.Need-cast-place Inv-loop μ-loop
 cast-place c = omega (arith, small (c .before .before .before .before .before .before))
 
 add-place : tie.Need-add-place Inv-loop μ-loop
-add-place c = omega (arith, c .before .before .before .before .before .before .before .before .before .before .before .before .before .before .pre .1 .1 .1 .0 .0)
+add-place c = omega (arith, c .before .before .before .before .before .before .before .before .before .before .before .before .before .before .pre .early)
 
 place-requires : tie.Need-place-requires Inv-loop μ-loop
 unfolding controlCount cycleRows
@@ -166,20 +164,20 @@ place-requires c κs =
           (ap length (row chosen ∙ ap (λ (b : Bool). cond b (record { cycle = a .past + 1; state = state unfinished; step = chosen .chosen .result } ∷ []) [])
           (eq-eqb (getD (l .values) (l .word) 0) (l .word) e)))
           (turn-room g (rowOf g (a .past)) (2 ^ controlCount g) (l .word) (in-words (turn unfinished)) (a .writing) (a .table .now) (l .table) (a .rows) (l .rows)
-          (l .inv .2) (start .pre .1 .1 .1 .1)),
+          (l .inv .2) (start .pre .room)),
       (
         omega (
           arith,
           l .inv .2 .count,
           small (turn unfinished),
           list-length (l .word) 1 (rowOf g (a .past)) (λ w h. row-one g (a .past) w),
-          start .pre .1 .1 .1 .0 .0,
-          start .pre .1 .1 .1 .0 .1,
+          start .pre .early,
+          start .pre .few,
         ),
-        omega (arith, start .pre .1 .1 .1 .0 .0),
+        omega (arith, start .pre .early),
         omega (
           arith,
-          reachable-values g (start .pre .1 .0 .accepted) (state unfinished) (start .pre .1 .0 .store .good .reach (state unfinished) (held .0) (held .1)),
+          reachable-values g (start .pre .planning .accepted) (state unfinished) (start .pre .planning .store .good .reach (state unfinished) (held .0) (held .1)),
         ),
       ),
     )
@@ -223,7 +221,7 @@ loop-again-2 c =
       going-on g (a .past) (l .word) (l .done) (l .values) (l .inv .1) (in-words (turn unfinished)) (c .before .done-after .result) (c .values-after .result)
           (left unfinished) (small (turn unfinished)) goes,
       turn-laid g (rowOf g (a .past)) (2 ^ controlCount g) (l .word) (in-words (turn unfinished)) (a .writing) (a .table .now) (l .table) (a .rows) (l .rows)
-          (l .inv .2) (start .pre .1 .1 .1 .1) (placed .place .last .0) (placed .place .result)
+          (l .inv .2) (start .pre .room) (placed .place .last .0) (placed .place .result)
           (subst (Laid g (a .writing) (l .table) (placed .place .last .0) (l .rows) (placed .place .result)) (sym (row chosen)) (placed .place .ensures g)),
     )
 
@@ -250,13 +248,17 @@ same-length c =
     let start = c .before .before .before .before .before .before .before .before in
     let a = start .args in
     laid-length (graph start) (a .writing) (a .table .now) (c .before .loop .table) (a .rows) (c .before .loop .rows) (cycleRows (graph start) (a .past)) (laid-all c)
-    (start .pre .1 .1 .1 .1)
+    (start .pre .room)
 
 returns : tie.Need-returns Inv-loop μ-loop
+unfolding controlCount
 returns c =
     let start = c .before .before .before .before .before .before .before .before in
     let l = c .before .loop in
-    (laid-all c, subst (λ (k : ℕ). Meets (graph start) (suc (start .args .past)) 0 k (l .done) (l .values)) (all-words c) (l .inv .1 .gone))
+    record {
+      laid = laid-all c;
+      meets = subst (λ (k : ℕ). Meets (graph start) (suc (start .args .past)) 0 k (l .done) (l .values)) (all-words c) (l .inv .1 .gone);
+    }
 
 pub cycle-spec : {M : Type 1} → statement M
 cycle-spec =

@@ -1,15 +1,10 @@
 -- `scheduler::rows::place` meets its contract. Assumes nothing.
-use Prim.Native.Nat.{_+_, _*_}
 use native.Mathlib.Omega.{arith}
-use mathlib.Core.Path.{_≡_, sym, subst}
-use mathlib.Core.Bool.{Bool, cond}
-use mathlib.Core.List.{List, [], _∷_}
 use borrow.Author.Tests.{eq-eqb, ne-eqb, not-true, not-false}
 use Rattle.machine.specs.Tables.{Row}
 use Rattle.machine.proofs.Truth.{of-true}
 use Rattle.meaning.specs.Steps.{machineOf}
 use Rattle.meaning.specs.TableFile.{maskBytes, rowFile}
-use Rattle.scheduler.specs.Rows.{Laid}
 use Rattle.scheduler.proofs.RowLaws.{laid-none, laid-counted, laid-written}
 use borrow.Author.Needs.{needs}
 use Rattle.scheduler.proofs.rows.place.Statement.{statement}

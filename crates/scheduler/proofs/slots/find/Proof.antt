@@ -3,7 +3,7 @@ use Prim.Native.Nat.{ℕ, _≤_, _<_, _-_, _^_, _%_}
 use native.Mathlib.Nat.{not-suc-le-zero}
 use native.Mathlib.Omega.{arith}
 use mathlib.Core.Path.{_≡_, sym, _∙_}
-use lib.ListN.{length, getD}
+use lib.ListN.{getD}
 use borrow.Author.Count.{below-more}
 use borrow.Author.Needs.{needs}
 use Rattle.scheduler.specs.Slots.{numberIn}
