@@ -6,6 +6,11 @@ ghost use mathlib.Core.Path.{_≡_};
 ghost use Rattle.meaning.specs.Answers.{reader, checker, rowsOfCycle};
 ghost use Rattle.modeurwan.specs.Numbers.{readingNumbers, answerNumbers, Schedules, partNumbers};
 
+// The number of a success, and a count or a place that there is not.
+const SUCCESS: usize = 0;
+
+const NONE: usize = 0;
+
 #[repr(C)]
 pub struct ModeurwanReading {
     pub number: usize,
@@ -40,10 +45,10 @@ pub extern "C" fn modeurwan_read(graph: &[u8]) -> ModeurwanReading
         Read::Refused { number, place } => ModeurwanReading {
             number: number as usize,
             place,
-            operations: 0,
-            classes: 0,
-            controls: 0,
-            arcs: 0,
+            operations: NONE,
+            classes: NONE,
+            controls: NONE,
+            arcs: NONE,
         },
         Read::Taken {
             operations,
@@ -51,8 +56,8 @@ pub extern "C" fn modeurwan_read(graph: &[u8]) -> ModeurwanReading
             controls,
             arcs,
         } => ModeurwanReading {
-            number: 0,
-            place: 0,
+            number: SUCCESS,
+            place: NONE,
             operations,
             classes,
             controls,
@@ -74,17 +79,17 @@ pub extern "C" fn modeurwan_schedule(
         Scheduled::Refused { number, place } => ModeurwanAnswer {
             number: number as usize,
             place,
-            cycles: 0,
-            rows: 0,
-            states: 0,
+            cycles: NONE,
+            rows: NONE,
+            states: NONE,
         },
         Scheduled::Done {
             cycles,
             rows,
             states,
         } => ModeurwanAnswer {
-            number: 0,
-            place: 0,
+            number: SUCCESS,
+            place: NONE,
             cycles: cycles as usize,
             rows,
             states,
@@ -101,16 +106,16 @@ pub extern "C" fn modeurwan_check(graph: &[u8], table: &[u8]) -> ModeurwanAnswer
         Checked::Refused { number, place } => ModeurwanAnswer {
             number: number as usize,
             place,
-            cycles: 0,
-            rows: 0,
-            states: 0,
+            cycles: NONE,
+            rows: NONE,
+            states: NONE,
         },
         Checked::Accepted { cycles, rows } => ModeurwanAnswer {
-            number: 0,
-            place: 0,
+            number: SUCCESS,
+            place: NONE,
             cycles: cycles as usize,
             rows,
-            states: 0,
+            states: NONE,
         },
     }
 }
