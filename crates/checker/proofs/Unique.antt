@@ -1,4 +1,4 @@
--- The promises of `check` and `rows_of` leave one outcome each. A returned part is fixed in what it holds and in where it
+-- The promises of `check`, `span_of` and `rows_of` leave one outcome each. A returned part is fixed in what it holds and in where it
 -- lies; its ghost name, which no program can see, is not. Assumes nothing.
 use Prim.Native.Nat.{ℕ}
 use native.Mathlib.Omega.{arith}
@@ -9,7 +9,8 @@ use Rattle.machine.specs.Refusals.{Verdict, taken, refused}
 use Rattle.meaning.specs.Answers.{Answer, Part}
 use Rattle.checker.specs.declared.Checked.{Checked}
 use Rattle.checker.specs.declared.Checked.the-variants.{Refused, Accepted}
-use Rattle.checker.specs.Checked.{valuesOf, Lies}
+use Rattle.checker.specs.declared.Span.{Span}
+use Rattle.checker.specs.Checked.{valuesOf, partOf, Lies}
 
 -- the answer that has the values
 checkedOf : Verdict → Answer → Checked
@@ -24,6 +25,10 @@ checked-back (Accepted c n) = refl
 pub one-answer : (v : Answer) (a b : Checked) → valuesOf a ≡ v → valuesOf b ≡ v → a ≡ b
 one-answer v a b p q =
     sym (checked-back a) ∙ ap (λ (u : Answer). checkedOf (u .verdict) u) (p ∙ sym q) ∙ checked-back b
+
+pub one-span : (v : Part) (a b : Span) → partOf a ≡ v → partOf b ≡ v → a ≡ b
+unfolding partOf
+one-span v a b p q = ap (λ (u : Part). record { start = u .start; end = u .end }) (p ∙ sym q)
 
 module _ (part : Part) (whole a b : RefT (List ℕ)) (p : Lies part whole a) (q : Lies part whole b) where
   pub one-content : now a ≡ now b

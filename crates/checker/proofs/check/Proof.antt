@@ -17,14 +17,21 @@ returns c =
 returns-2 : tie.Need-returns-2
 unfolding verdictOf
 returns-2 c =
-    table-refused _ _ _ _ (counted _ _ _ _ _ (sym (ap readValues (c .before .before .before .before .before .operations .given .1)) ∙ c .before .before .before .before .before .before .before .read-graph .ensures) .verdict)
-    (sym (c .before .before .before .fault-for .ensures) ∙ ap verdictOf (c .before .number2 .given .1))
+    let d = c .before .before .before in
+    let r = d .before .before in
+    table-refused _ _ _ _
+    (counted _ _ _ _ _ (sym (ap readValues (r .operations .given .1)) ∙ r .before .before .read-graph .ensures) .verdict)
+    (sym (d .fault-for .ensures) ∙ ap verdictOf (c .before .number2 .given .1))
 
 returns-3 : tie.Need-returns-3
 unfolding verdictOf
 returns-3 c =
-    table-accepted _ _ _ _ (counted _ _ _ _ _ (sym (ap readValues (c .before .before .before .before .before .before .operations .given .1)) ∙ c .before .before .before .before .before .before .before .before .read-graph .ensures) .verdict)
-    (sym (c .before .before .before .before .fault-for .ensures) ∙ ap verdictOf (c .before .before .enum-told .given .1)) (c .before .cycles .ensures) (c .row-count .ensures .right)
+    let d = c .before .before .before .before in
+    let r = d .before .before in
+    table-accepted _ _ _ _
+    (counted _ _ _ _ _ (sym (ap readValues (r .operations .given .1)) ∙ r .before .before .read-graph .ensures) .verdict)
+    (sym (d .fault-for .ensures) ∙ ap verdictOf (c .before .before .enum-told .given .1)) (c .before .cycles .ensures)
+    (c .row-count .ensures .right)
 
 pub check-spec : {M : Type 1} → statement M
 check-spec =

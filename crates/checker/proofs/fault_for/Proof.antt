@@ -16,7 +16,8 @@ table-fault-requires c κs =
 
 returns : tie.Need-returns
 returns c =
-    c .table-fault .ensures ∙ ap (λ (g : Graph). judge (tableLines g (c .before .before .before .before .before .before .before .args .table .now))) (parts _ _ _ _ (c .before .before .before .before .before .before .before .pre))
+    let s = c .before .before .before .before .before .before .before in
+    c .table-fault .ensures ∙ ap (λ (g : Graph). judge (tableLines g (s .args .table .now))) (parts _ _ _ _ (s .pre))
 
 pub fault-for-spec : {M : Type 1} → statement M
 fault-for-spec =

@@ -13,28 +13,38 @@ use Rattle.checker.proofs.span_of.Tie as tie
 returns : tie.Need-returns
 unfolding partOf
 returns c =
-    rw (front _ _ _ _ (c .before .before .before .before .before .args .cycle) (sym (ap valuesOf (c .enum-told .given .1)) ∙ c .before .before .check .ensures)) refl
+    rw (front _ _ _ _ (c .before .before .before .before .before .args .cycle)
+    (sym (ap valuesOf (c .enum-told .given .1)) ∙ c .before .before .check .ensures)) refl
 
 returns-2 : tie.Need-returns-2
 unfolding partOf
 returns-2 c =
-    rw (at-end _ _ _ _ _ (sym (ap valuesOf (c .before .before .cycles .given .1)) ∙ c .before .before .before .before .check .ensures) (c .if1 .taken)) refl
+    let d = c .before .before in
+    rw (at-end _ _ _ _ _ (sym (ap valuesOf (d .cycles .given .1)) ∙ d .before .before .check .ensures) (c .if1 .taken)) refl
 
 add-cycle-start : tie.Need-add-cycle-start
 unfolding cyclesOf byteAt
 add-cycle-start c =
-    let s = c .before .before .before .before .before .before .before .before in
+    let d = c .before .before .before in
+    let e = d .before .before in
+    let s = e .before .before .before in
     omega (
       arith,
       above-none (s .args .graph .now) (s .args .table .now) _ _ (s .args .cycle)
-          (sym (ap valuesOf (c .before .before .before .cycles .given .1)) ∙ c .before .before .before .before .before .check .ensures) (c .before .if1 .left),
-      c .before .before .before .before .before .before .shared-slice-known2 .given 3,
+          (sym (ap valuesOf (d .cycles .given .1)) ∙ e .check .ensures) (c .before .if1 .left),
+      e .before .shared-slice-known2 .given 3,
     )
 
 returns-3 : tie.Need-returns-3
 unfolding partOf
 returns-3 c =
-    rw (of-cycle _ _ _ _ _ (sym (ap valuesOf (c .before .before .before .before .cycles .given .1)) ∙ c .before .before .before .before .before .before .check .ensures) (c .before .before .if1 .left), ← c .before .cycle-start .ensures _, ← add-one _, ← c .cycle-start2 .ensures _) refl
+    let d = c .before .before .before .before in
+    rw (
+      of-cycle _ _ _ _ _ (sym (ap valuesOf (d .cycles .given .1)) ∙ d .before .before .check .ensures) (c .before .before .if1 .left),
+      ← c .before .cycle-start .ensures _,
+      ← add-one _,
+      ← c .cycle-start2 .ensures _,
+    ) refl
 
 pub span-of-spec : {M : Type 1} → statement M
 span-of-spec =

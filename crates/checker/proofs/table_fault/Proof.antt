@@ -15,14 +15,24 @@ returns-2 : tie.Need-returns-2
 unfolding verdictOf otherwise
 returns-2 c =
     sym (table-verdict _ _
-    ∙ rw (← c .before .before .before .before .misshapen .ensures, c .before .before .before .if1 .left, ← c .before .before .disorder .ensures _, c .enum-told .given .1) refl)
+    ∙ rw (
+      ← c .before .before .before .before .misshapen .ensures,
+      c .before .before .before .if1 .left,
+      ← c .before .before .disorder .ensures _,
+      c .enum-told .given .1,
+    ) refl)
 
 returns-3 : tie.Need-returns-3
 unfolding verdictOf otherwise
 returns-3 c =
     c .unsound .ensures
     ∙ sym (table-verdict _ _
-    ∙ rw (← c .before .before .before .before .before .misshapen .ensures, c .before .before .before .before .if1 .left, ← c .before .before .before .disorder .ensures _, c .before .enum-told2 .given .1) refl)
+    ∙ rw (
+      ← c .before .before .before .before .before .misshapen .ensures,
+      c .before .before .before .before .if1 .left,
+      ← c .before .before .before .disorder .ensures _,
+      c .before .enum-told2 .given .1,
+    ) refl)
 
 pub table-fault-spec : {M : Type 1} → statement M
 table-fault-spec =

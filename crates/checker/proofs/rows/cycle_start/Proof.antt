@@ -28,13 +28,25 @@ loop-holds c = (search needs, search needs, λ g. refl)
 
 loop-again : tie.Need-loop-again Inv-loop μ-loop
 loop-again c =
+    let at = c .before .before .row-at .ensures in
+    let counted = c .before .before .before .before .loop .inv .2 in
     ⊎-elim
-    (λ w. (search needs, omega arith, λ g. w .1 ∙ earlier-more g _ _ _ _ _ true (c .before .before .row-at .ensures) (lt-ltb _ _ (w .0 .taken)) (c .before .before .before .before .loop .inv .2 g)))
-    (λ w. (search needs, omega arith, λ g. w .1 ∙ sym (add-zero _) ∙ earlier-more g _ _ _ _ _ false (c .before .before .row-at .ensures) (le-ltb _ _ (w .0 .left)) (c .before .before .before .before .loop .inv .2 g)))
+    (λ w. (
+      search needs,
+      omega arith,
+      λ g. w .1 ∙ earlier-more g _ _ _ _ _ true at (lt-ltb _ _ (w .0 .taken)) (counted g),
+    ))
+    (λ w. (
+      search needs,
+      omega arith,
+      λ g. w .1 ∙ sym (add-zero _) ∙ earlier-more g _ _ _ _ _ false at (le-ltb _ _ (w .0 .left)) (counted g),
+    ))
     (c .if1 .came)
 
 returns : tie.Need-returns Inv-loop μ-loop
-returns c file = start-of-cycle file _ _ _ _ _ (c .before .before .row-count .ensures .right) (c .before .loop .inv .0) (c .loop-test .left) (c .before .loop .inv .2)
+returns c file =
+    let l = c .before .loop in
+    start-of-cycle file _ _ _ _ _ (c .before .before .row-count .ensures .right) (l .inv .0) (c .loop-test .left) (l .inv .2)
 
 pub cycle-start-spec : {M : Type 1} → statement M
 cycle-start-spec =

@@ -25,20 +25,25 @@ loop-holds c = (search needs, λ g. ordered-first g (c .before .before .args .ta
 returns : tie.Need-returns Inv-loop μ-loop
 unfolding verdictOf orderLine tableIn
 returns c g =
-    let l = c .before .before .before .before .before .loop in
+    let d = c .before .before in
+    let e = d .before .before .before in
+    let l = e .loop in
     rw (add-one (l .i))
     (clear-refused (order g _) (suc (l .i)) (l .inv .1 g)
-    (omega (arith, c .before .before .before .before .before .before .row-count .ensures .right, c .before .before .before .before .loop-test .taken))
-    (order-fault g _ _ _ _ _ (l .inv .0) (c .before .before .before .row-at .ensures) (c .before .before .row-at2 .ensures) (c .before .rises .ensures g) ∙ c .if1 .taken))
+    (omega (arith, e .before .row-count .ensures .right, d .before .before .loop-test .taken))
+    (order-fault g _ _ _ _ _ (l .inv .0) (d .before .row-at .ensures) (d .row-at2 .ensures) (c .before .rises .ensures g)
+    ∙ c .if1 .taken))
 
 loop-again : tie.Need-loop-again Inv-loop μ-loop
 loop-again c = (
   search needs,
   λ g.
-      let l = c .before .before .before .before .before .loop in
+      let d = c .before .before in
+      let l = d .before .before .before .loop in
       rw (add-one (l .i))
       (clear-more (order g _) (suc (l .i)) (l .inv .1 g)
-      (order-fault g _ _ _ _ _ (l .inv .0) (c .before .before .before .row-at .ensures) (c .before .before .row-at2 .ensures) (c .before .rises .ensures g) ∙ c .if1 .left)),
+      (order-fault g _ _ _ _ _ (l .inv .0) (d .before .row-at .ensures) (d .row-at2 .ensures) (c .before .rises .ensures g)
+      ∙ c .if1 .left)),
 )
 
 returns-2 : tie.Need-returns-2 Inv-loop μ-loop

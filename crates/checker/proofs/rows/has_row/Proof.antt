@@ -27,14 +27,20 @@ loop-holds c = (search needs, λ g. refl)
 
 returns : tie.Need-returns Inv-loop μ-loop
 unfolding hasRow tableIn
-returns c g = any-found _ _ _ _ (c .before .before .before .before .row-count .ensures .right) (c .before .before .loop-test .taken) (sym (c .before .stands-at .ensures g) ∙ c .if1 .taken)
+returns c g =
+    any-found _ _ _ _ (c .before .before .before .before .row-count .ensures .right) (c .before .before .loop-test .taken)
+    (sym (c .before .stands-at .ensures g) ∙ c .if1 .taken)
 
 loop-again : tie.Need-loop-again Inv-loop μ-loop
-loop-again c = (search needs, λ g. any-more _ _ (c .before .before .before .loop .inv .1 g) (sym (c .before .stands-at .ensures g) ∙ c .if1 .left))
+loop-again c =
+    let l = c .before .before .before .loop in
+    (search needs, λ g. any-more _ _ (l .inv .1 g) (sym (c .before .stands-at .ensures g) ∙ c .if1 .left))
 
 returns-2 : tie.Need-returns-2 Inv-loop μ-loop
 unfolding hasRow tableIn
-returns-2 c g = any-none _ _ _ _ (c .before .before .row-count .ensures .right) (c .before .loop .inv .0) (c .loop-test .left) (c .before .loop .inv .1 g)
+returns-2 c g =
+    let l = c .before .loop in
+    any-none _ _ _ _ (c .before .before .row-count .ensures .right) (l .inv .0) (c .loop-test .left) (l .inv .1 g)
 
 pub has-row-spec : {M : Type 1} → statement M
 has-row-spec =

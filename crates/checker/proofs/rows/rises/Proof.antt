@@ -1,5 +1,4 @@
 -- `checker::rows::rises` meets its contract. Assumes nothing.
-use borrow.Author.Needs.{needs}
 use mathlib.Core.Path.{refl}
 use Rattle.machine.specs.Tables.{rises}
 use Rattle.meaning.specs.Steps.{before}

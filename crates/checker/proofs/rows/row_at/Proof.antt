@@ -9,7 +9,8 @@ use Rattle.checker.proofs.rows.row_at.Tie as tie
 returns : tie.Need-returns
 unfolding maskBytes tableIn rowOf
 returns c =
-    record { right = λ g. cc (row-start (g .edition) (c .before .before .before .before .before .args .i)); small = c .before .before .before .byte .ensures .small }
+    let d = c .before .before .before in
+    record { right = λ g. cc (row-start (g .edition) (d .before .before .args .i)); small = d .byte .ensures .small }
 
 pub row-at-spec : {M : Type 1} → statement M
 row-at-spec =

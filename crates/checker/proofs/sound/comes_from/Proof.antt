@@ -9,7 +9,9 @@ returns : tie.Need-returns
 returns c limits arcs = not-came (graphOf limits _ _ arcs) _ _ _ _ (c .before .before .before .row-at .ensures) (c .if1 .taken)
 
 returns-2 : tie.Need-returns-2
-returns-2 c limits arcs = came (graphOf limits _ _ arcs) _ _ _ _ (c .before .before .before .before .row-at .ensures) _ (c .before .if1 .left) (c .leads .ensures limits arcs)
+returns-2 c limits arcs =
+    came (graphOf limits _ _ arcs) _ _ _ _ (c .before .before .before .before .row-at .ensures) _ (c .before .if1 .left)
+    (c .leads .ensures limits arcs)
 
 pub comes-from-spec : {M : Type 1} → statement M
 comes-from-spec = tie.close (tie.spec (λ c κs. search needs) (λ c. search needs) returns (λ c κs. search needs) returns-2)

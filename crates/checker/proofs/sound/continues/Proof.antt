@@ -34,14 +34,18 @@ returns c limits arcs =
     continues-row g _ _ _ at _
     (all-broken _ _ _ _ (c .before .before .before .before .before .before .word-count .ensures)
     (c .before .before .before .before .loop-test .taken)
-    (goes-on g _ _ _ at _ _ _ _ (c .before .before .before .next .ensures limits arcs) (c .before .covered .ensures limits arcs) ∙ not-true _ (c .if1 .taken)))
+    (goes-on g _ _ _ at _ _ _ _ (c .before .before .before .next .ensures limits arcs) (c .before .covered .ensures limits arcs)
+    ∙ not-true _ (c .if1 .taken)))
 
 loop-again : tie.Need-loop-again Inv-loop μ-loop
 loop-again c = (
   search needs,
   λ limits arcs.
-      all-more _ _ (c .before .before .before .before .before .loop .inv .1 limits arcs)
-      (goes-on (graphOf limits _ _ arcs) _ _ _ (c .before .before .before .before .before .before .before .row-at .ensures) _ _ _ _ (c .before .before .before .next .ensures limits arcs) (c .before .covered .ensures limits arcs) ∙ not-false _ (c .if1 .left)),
+      let d = c .before .before .before in
+      let l = d .before .before in
+      all-more _ _ (l .loop .inv .1 limits arcs)
+      (goes-on (graphOf limits _ _ arcs) _ _ _ (l .before .before .row-at .ensures) _ _ _ _ (d .next .ensures limits arcs)
+      (c .before .covered .ensures limits arcs) ∙ not-false _ (c .if1 .left)),
 )
 
 returns-2 : tie.Need-returns-2 Inv-loop μ-loop

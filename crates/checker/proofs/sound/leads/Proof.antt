@@ -27,15 +27,24 @@ loop-holds c = (search needs, λ limits arcs. refl)
 
 returns : tie.Need-returns Inv-loop μ-loop
 unfolding same controlCount
-returns c limits arcs = any-found _ _ _ _ (c .before .before .before .before .before .before .word-count .ensures) (c .before .before .before .before .loop-test .taken) (rw (← c .before .before .before .next .ensures limits arcs) (c .if1 .taken))
+returns c limits arcs =
+    let d = c .before .before .before in
+    let l = d .before .before in
+    any-found _ _ _ _ (l .before .word-count .ensures) (d .before .loop-test .taken)
+    (rw (← d .next .ensures limits arcs) (c .if1 .taken))
 
 loop-again : tie.Need-loop-again Inv-loop μ-loop
 unfolding same
-loop-again c = (search needs, λ limits arcs. any-more _ _ (c .before .before .before .before .before .loop .inv .1 limits arcs) (rw (← c .before .before .before .next .ensures limits arcs) (c .if1 .left)))
+loop-again c =
+    let d = c .before .before .before in
+    let l = d .before .before .loop in
+    (search needs, λ limits arcs. any-more _ _ (l .inv .1 limits arcs) (rw (← d .next .ensures limits arcs) (c .if1 .left)))
 
 returns-2 : tie.Need-returns-2 Inv-loop μ-loop
 unfolding controlCount
-returns-2 c limits arcs = any-none _ _ _ _ (c .before .before .word-count .ensures) (c .before .loop .inv .0) (c .loop-test .left) (c .before .loop .inv .1 limits arcs)
+returns-2 c limits arcs =
+    let l = c .before .loop in
+    any-none _ _ _ _ (c .before .before .word-count .ensures) (l .inv .0) (c .loop-test .left) (l .inv .1 limits arcs)
 
 pub leads-spec : {M : Type 1} → statement M
 leads-spec =

@@ -14,7 +14,8 @@ unfounded-requires c κs = let s = c .before .before .before .before .before in 
 returns : tie.Need-returns
 unfolding verdictOf
 returns c =
-    sym (row-verdict _ _ _ _ (c .before .before .row-at .ensures) ∙ rw (← c .before .before .before .unfounded .ensures _ _, c .if1 .taken) refl)
+    sym (row-verdict _ _ _ _ (c .before .before .row-at .ensures)
+    ∙ rw (← c .before .before .before .unfounded .ensures _ _, c .if1 .taken) refl)
 
 returns-2 : tie.Need-returns-2
 unfolding verdictOf

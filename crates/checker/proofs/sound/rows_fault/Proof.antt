@@ -27,21 +27,25 @@ returns : tie.Need-returns Inv-loop μ-loop
 unfolding verdictOf
 returns c =
     let d = c .before .before in
+    let l = d .before .before in
     let e = c .enum-told .given .1 in
     ap verdictOf e
-    ∙ sym (list-refused _ _ _ _ _ (subst (λ (k : ℕ). d .before .before .loop .i < k) (d .before .before .before .row-count .ensures .right) (d .before .loop-test .taken))
-    (d .before .before .loop .inv .1) (sym (d .row-fault .ensures) ∙ ap verdictOf e))
+    ∙ sym (list-refused _ _ _ _ _
+    (subst (λ (k : ℕ). l .loop .i < k) (l .before .row-count .ensures .right) (d .before .loop-test .taken))
+    (l .loop .inv .1) (sym (d .row-fault .ensures) ∙ ap verdictOf e))
 
 loop-again : tie.Need-loop-again Inv-loop μ-loop
 unfolding verdictOf
 loop-again c =
     let d = c .before .before in
-    (search needs, list-more _ _ (d .before .before .loop .inv .1) (sym (d .row-fault .ensures) ∙ ap verdictOf (c .enum-told2 .given .1)))
+    let e = c .enum-told2 .given .1 in
+    (search needs, list-more _ _ (d .before .before .loop .inv .1) (sym (d .row-fault .ensures) ∙ ap verdictOf e))
 
 returns-2 : tie.Need-returns-2 Inv-loop μ-loop
 unfolding verdictOf
 returns-2 c =
-    rw (← c .before .before .row-count .ensures .right, ← le-antisymm (c .before .loop .inv .0) (c .loop-test .left)) (sym (c .before .loop .inv .1))
+    let l = c .before .loop in
+    rw (← c .before .before .row-count .ensures .right, ← le-antisymm (l .inv .0) (c .loop-test .left)) (sym (l .inv .1))
 
 pub rows-fault-spec : {M : Type 1} → statement M
 rows-fault-spec =

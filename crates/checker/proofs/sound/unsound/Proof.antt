@@ -21,7 +21,12 @@ returns-2 : tie.Need-returns-2
 unfolding verdictOf otherwise
 returns-2 c =
     sym (sound-verdict _ _
-    ∙ rw (← c .before .before .before .before .before .rows-fault .ensures, c .before .before .before .enum-told2 .given .1, ← c .before .before .gap .ensures _ _, c .enum-told3 .given .1) refl)
+    ∙ rw (
+      ← c .before .before .before .before .before .rows-fault .ensures,
+      c .before .before .before .enum-told2 .given .1,
+      ← c .before .before .gap .ensures _ _,
+      c .enum-told3 .given .1,
+    ) refl)
 
 returns-3 : tie.Need-returns-3
 unfolding verdictOf otherwise
