@@ -1,5 +1,3 @@
-pub mod Loops
-pub mod Lines
 pub mod RowLaws
 pub mod SoundLaws
 pub mod Verdicts

@@ -1,12 +1,11 @@
 -- What the checker's answer says, and where the query's part lies.
-use Prim.Native.Nat.{ℕ, _+_, _-_, _*_, _≤_}
+use Prim.Native.Nat.{ℕ, _+_, _-_}
 use mathlib.Core.Path.{_≡_}
 use mathlib.Core.List.{List}
-use lib.ListN.{length, take, drop}
+use lib.ListN.{take, drop}
 use denote.Ref.{RefT, now, ptr}
 use Rattle.machine.specs.Refusals.{taken, refused}
-use Rattle.meaning.specs.Graph.{operationsOf, classesOf, controlsOf}
-use Rattle.meaning.specs.Answers.{Answer, graphVerdict, Part}
+use Rattle.meaning.specs.Answers.{Answer, Part}
 use Rattle.checker.specs.declared.Checked.{Checked}
 use Rattle.checker.specs.declared.Checked.the-variants.{Refused, Accepted}
 use Rattle.checker.specs.declared.Span.{Span}
@@ -15,14 +14,6 @@ use Rattle.checker.specs.declared.Span.{Span}
 unfoldable pub valuesOf : Checked → Answer
 valuesOf (Refused number place) = record { verdict = refused number place; cycles = 0; rows = 0; states = 0 }
 valuesOf (Accepted cycles rows) = record { verdict = taken; cycles = cycles; rows = rows; states = 0 }
-
--- the graph file is taken, has these counts, and is long enough for the parts that they count
-pub record Counted (file : List ℕ) (operations classes controls : ℕ) : Type 0 where
-  pub verdict : graphVerdict file ≡ taken
-  pub operations-right : operations ≡ operationsOf file
-  pub classes-right : classes ≡ classesOf file
-  pub controls-right : controls ≡ controlsOf file
-  pub within : 16 + classes + 3 * operations + controls ≤ length file
 
 -- the part of a span
 unfoldable pub partOf : Span → Part

@@ -8,14 +8,9 @@ ghost use mathlib.Core.Path.{_≡_};
 ghost use Rattle.machine.specs.Refusals.{judge};
 ghost use Rattle.meaning.specs.Graph.{content};
 ghost use Rattle.meaning.specs.Answers.{tableLines, checker, rowsOfCycle};
+ghost use Rattle.meaning.proofs.Taken.{Within};
 ghost use Rattle.reader.specs.Reading.{verdictOf};
-ghost use Rattle.steps.specs.Parts.{graphOf};
-ghost use Rattle.checker.specs.Rows.{Sizes};
-ghost use Rattle.checker.specs.Checked.{Counted, valuesOf, partOf, Lies};
-
-const GRAPH_HEADER_BYTES: usize = 16;
-
-const OPERATION_BYTES: usize = 3;
+ghost use Rattle.checker.specs.Checked.{valuesOf, partOf, Lies};
 
 // What the checker answers.
 pub enum Checked {
@@ -23,56 +18,26 @@ pub enum Checked {
     Accepted { cycles: u32, rows: usize },
 }
 
-// Refusals 15 to 20, for a graph of these parts.
-fn table_fault(
-    limits: &[u8],
-    operations: &[u8],
-    controls: &[u8],
-    arcs: &[u8],
-    table: &[u8],
-) -> Fault
-    requires { ⌜ Sizes (graphOf (now limits) (now operations) (now controls) (now arcs)) ⌝ }
-    ensures { λ r.
-        ⌜ verdictOf r
-        ≡ judge (tableLines (graphOf (now (limits .entry)) (now (operations .entry)) (now (controls .entry)) (now (arcs .entry))) (now (table .entry))) ⌝ }
+// Refusals 15 to 20, for a graph within its edition's maxima.
+fn table_fault(graph: &[u8], table: &[u8]) -> Fault
+    requires { ⌜ Within (content (now graph)) ⌝ }
+    ensures { λ r. ⌜ verdictOf r ≡ judge (tableLines (content (now (graph .entry))) (now (table .entry))) ⌝ }
 {
-    if rows::misshapen(table) {
+    let edition = parts::edition(graph);
+    if rows::misshapen(edition, table) {
         return Fault::At {
             number: 15,
             place: 0,
         };
     }
-    let fault = rows::disorder(table);
+    let fault = rows::disorder(edition, table);
     if let Fault::At {
         number: _,
         place: _,
     } = fault {
         return fault;
     }
-    sound::unsound(limits, operations, controls, arcs, table)
-}
-
-// Refusals 15 to 20, for a graph file that is taken with these counts.
-fn fault_for(
-    graph: &[u8],
-    operations: usize,
-    classes: usize,
-    controls: usize,
-    table: &[u8],
-) -> Fault
-    requires { ⌜ Counted (now graph) operations classes controls ⌝ }
-    ensures { λ r. ⌜ verdictOf r ≡ judge (tableLines (content (now (graph .entry))) (now (table .entry))) ⌝ }
-{
-    let operations_at = GRAPH_HEADER_BYTES + classes;
-    let controls_at = operations_at + OPERATION_BYTES * operations;
-    let arcs_at = controls_at + controls;
-    table_fault(
-        &graph[GRAPH_HEADER_BYTES..operations_at],
-        &graph[operations_at..controls_at],
-        &graph[controls_at..arcs_at],
-        &graph[arcs_at..],
-        table,
-    )
+    sound::unsound(graph, table)
 }
 
 // A table file is accepted for a graph file, with its cycles and rows, or one of them is refused with a number and a place.
@@ -82,11 +47,11 @@ pub fn check(graph: &[u8], table: &[u8]) -> Checked
     match reader::read_graph(graph) {
         Read::Refused { number, place } => Checked::Refused { number, place },
         Read::Taken {
-            operations,
-            classes,
-            controls,
+            operations: _,
+            classes: _,
+            controls: _,
             arcs: _,
-        } => match fault_for(graph, operations, classes, controls, table) {
+        } => match table_fault(graph, table) {
             Fault::At { number, place } => Checked::Refused { number, place },
             Fault::Passed => Checked::Accepted {
                 cycles: rows::cycles(table),
@@ -114,9 +79,10 @@ pub fn span_of(graph: &[u8], table: &[u8], cycle: u32) -> Span
     if (cycle == 0) | (cycles < cycle) {
         return Span { start: end, end };
     }
+    let edition = parts::edition(graph);
     Span {
-        start: rows::cycle_start(table, cycle),
-        end: rows::cycle_start(table, cycle + 1),
+        start: rows::cycle_start(edition, table, cycle),
+        end: rows::cycle_start(edition, table, cycle + 1),
     }
 }
 

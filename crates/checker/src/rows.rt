@@ -1,35 +1,33 @@
 // The rows of a table file: what stands in them, their order, and searches over them.
+use masks::Set;
 use numbers::byte;
+use numbers::number;
 use numbers::pair;
-use numbers::triple;
+use parts::mask_bytes;
+use parts::most_rows;
+use parts::row_bytes;
+use parts::rows_start;
 use reader::Fault;
+use steps::State;
 ghost use mathlib.Core.Path.{_≡_};
 ghost use Prim.Native.Nat.{ℕ, suc, _^_, _<_};
 ghost use mathlib.Core.List.{List, [], _∷_};
 ghost use Rattle.machine.specs.Refusals.{judge};
 ghost use Rattle.machine.specs.Tables.{rises, standsAt, hasRow, lastCycle, orderLine};
-ghost use Rattle.meaning.specs.Graph.{Graph};
+ghost use Rattle.meaning.specs.Graph.{Graph, content};
 ghost use Rattle.meaning.specs.Steps.{machineOf};
-ghost use Rattle.meaning.specs.TableFile.{cyclesOf, rowsOf, layoutLine, tableIn};
+ghost use Rattle.meaning.specs.TableFile.{cyclesOf, rowsOf, rowStart, layoutLine, tableIn};
 ghost use Rattle.meaning.specs.Answers.{cycleStart};
 ghost use Rattle.reader.specs.Reading.{verdictOf};
-ghost use Rattle.checker.specs.Rows.{RowAt, rowOf, stateOf};
 ghost use Rattle.numbers.specs.Reads.{Reads};
-
-const HEADER_BYTES: usize = 8;
-
-const ROW_BYTES: usize = 8;
-
-const MASK_BYTES: usize = 3;
-
-const MOST_ROWS: usize = 384;
+ghost use Rattle.steps.specs.States.{stateOf};
+ghost use Rattle.checker.specs.Rows.{OfEdition, RowAt, rowOf};
 
 // A row's bytes as numbers.
 pub(crate) struct Row {
     pub cycle: u32,
-    pub values: u32,
-    pub done: u32,
-    pub step: u32,
+    pub state: State,
+    pub step: Set,
 }
 
 // The cycles that the header says.
@@ -46,48 +44,59 @@ pub(crate) fn row_count(table: &[u8]) -> usize
     pair(table, 4) as usize
 }
 
-// Row i + 1, so the row after i others.
-pub(crate) fn row_at(table: &[u8], i: usize) -> Row
+// Where row i + 1 stands, so the row after i others.
+fn row_place(edition: u32, i: usize) -> usize
     requires { ⌜ i < 2 ^ 16 ⌝ }
-    ensures { λ r. ⌜ RowAt (now (table .entry)) (suc i) r ⌝ }
+    ensures { λ r. ⌜ r ≡ rowStart edition (suc i) ⌝ }
 {
-    let at = HEADER_BYTES + ROW_BYTES * i;
+    rows_start(edition) + row_bytes(edition) * i
+}
+
+// Row i + 1.
+pub(crate) fn row_at(edition: u32, table: &[u8], i: usize) -> Row
+    requires { ⌜ i < 2 ^ 16 ⌝ }
+    ensures { λ r. ⌜ OfEdition edition (λ g. RowAt g (now (table .entry)) (suc i) r) ⌝ }
+{
+    let at = row_place(edition, i);
+    let size = mask_bytes(edition);
+    let state = State {
+        done: number(table, at + 2, size),
+        values: byte(table, at + 1),
+    };
     Row {
         cycle: byte(table, at),
-        values: byte(table, at + 1),
-        done: triple(table, at + 2),
-        step: triple(table, at + 2 + MASK_BYTES),
+        state,
+        step: number(table, at + 2 + size, size),
     }
 }
 
 // Refusal 15: the length, mark, edition, offset or number of rows is wrong.
-pub(crate) fn misshapen(table: &[u8]) -> bool
-    ensures { λ r. ⌜ r ≡ layoutLine 1 (now (table .entry)) .fault 0 ⌝ }
+pub(crate) fn misshapen(edition: u32, table: &[u8]) -> bool
+    ensures { λ r. ⌜ r ≡ layoutLine edition (now (table .entry)) .fault 0 ⌝ }
 {
     let n = row_count(table);
-    (table.len() < HEADER_BYTES)
-        | !((byte(table, 0) == 0x48) & (byte(table, 1) == 0x54) & (byte(table, 2) == 1))
-        | !(pair(table, 6) == 8)
-        | (MOST_ROWS < n)
-        | !(table.len() == HEADER_BYTES + ROW_BYTES * n)
+    let start = rows_start(edition);
+    (table.len() < start)
+        | !((byte(table, 0) == 0x48) & (byte(table, 1) == 0x54) & (byte(table, 2) == edition))
+        | !(pair(table, 6) as usize == start)
+        | (most_rows(edition) < n)
+        | !(table.len() == row_place(edition, n))
 }
 
-// Row a stands before row b: by cycle, then values, then done.
+// Row a stands before row b: by cycle, then by their states' order.
 fn rises(a: Row, b: Row) -> bool
     ensures { λ r. ⌜ ((g : Graph) → r ≡ rises (machineOf g) (rowOf g a) (rowOf g b)) ⌝ }
 {
-    (a.cycle < b.cycle)
-        | ((a.cycle == b.cycle)
-            & ((a.values < b.values) | ((a.values == b.values) & (a.done < b.done))))
+    (a.cycle < b.cycle) | ((a.cycle == b.cycle) & steps::before(a.state, b.state))
 }
 
 // Refusal 16: the first row that is not above the row before.
-pub(crate) fn disorder(table: &[u8]) -> Fault
-    ensures { λ r. ⌜ ((g : Graph) → verdictOf r ≡ judge (orderLine (machineOf g) (tableIn g (now (table .entry))) ∷ [])) ⌝ }
+pub(crate) fn disorder(edition: u32, table: &[u8]) -> Fault
+    ensures { λ r. ⌜ OfEdition edition (λ g. verdictOf r ≡ judge (orderLine (machineOf g) (tableIn g (now (table .entry))) ∷ [])) ⌝ }
 {
     let n = row_count(table);
     for i in 1..n {
-        if !rises(row_at(table, i - 1), row_at(table, i)) {
+        if !rises(row_at(edition, table, i - 1), row_at(edition, table, i)) {
             return Fault::At {
                 number: 16,
                 place: i + 1,
@@ -98,21 +107,21 @@ pub(crate) fn disorder(table: &[u8]) -> Fault
 }
 
 // Row i + 1 stands at cycle t with this state.
-fn stands_at(table: &[u8], t: u32, done: u32, values: u32, i: usize) -> bool
+fn stands_at(edition: u32, table: &[u8], t: u32, s: State, i: usize) -> bool
     requires { ⌜ i < 2 ^ 16 ⌝ }
-    ensures { λ r. ⌜ ((g : Graph) → r ≡ standsAt (machineOf g) (tableIn g (now (table .entry))) t (stateOf done values) (suc i)) ⌝ }
+    ensures { λ r. ⌜ OfEdition edition (λ g. r ≡ standsAt (machineOf g) (tableIn g (now (table .entry))) t (stateOf s) (suc i)) ⌝ }
 {
-    let r = row_at(table, i);
-    (r.cycle == t) & ((r.done == done) & (r.values == values))
+    let r = row_at(edition, table, i);
+    (r.cycle == t) & steps::same(r.state, s)
 }
 
 // Some row does.
-pub(crate) fn has_row(table: &[u8], t: u32, done: u32, values: u32) -> bool
-    ensures { λ r. ⌜ ((g : Graph) → r ≡ hasRow (machineOf g) (tableIn g (now (table .entry))) t (stateOf done values)) ⌝ }
+pub(crate) fn has_row(edition: u32, table: &[u8], t: u32, s: State) -> bool
+    ensures { λ r. ⌜ OfEdition edition (λ g. r ≡ hasRow (machineOf g) (tableIn g (now (table .entry))) t (stateOf s)) ⌝ }
 {
     let n = row_count(table);
     for i in 0..n {
-        if stands_at(table, t, done, values, i) {
+        if stands_at(edition, table, t, s, i) {
             return true;
         }
     }
@@ -120,26 +129,26 @@ pub(crate) fn has_row(table: &[u8], t: u32, done: u32, values: u32) -> bool
 }
 
 // The last row's cycle, 0 with no rows.
-pub(crate) fn last_cycle(table: &[u8]) -> u32
-    ensures { λ r. ⌜ ((g : Graph) → r ≡ lastCycle (machineOf g) (tableIn g (now (table .entry)))) ⌝ }
+pub(crate) fn last_cycle(edition: u32, table: &[u8]) -> u32
+    ensures { λ r. ⌜ OfEdition edition (λ g. r ≡ lastCycle (machineOf g) (tableIn g (now (table .entry)))) ⌝ }
 {
     let n = row_count(table);
     if n == 0 {
         return 0;
     }
-    row_at(table, n - 1).cycle
+    row_at(edition, table, n - 1).cycle
 }
 
 // Where the rows of cycles before t end.
-pub(crate) fn cycle_start(table: &[u8], t: u32) -> usize
-    ensures { λ r. ⌜ ((file : List ℕ) → r ≡ cycleStart file (now (table .entry)) t) ⌝ }
+pub(crate) fn cycle_start(edition: u32, table: &[u8], t: u32) -> usize
+    ensures { λ r. ⌜ ((file : List ℕ) → content file .edition ≡ edition → r ≡ cycleStart file (now (table .entry)) t) ⌝ }
 {
     let n = row_count(table);
     let mut earlier = 0;
     for i in 0..n {
-        if row_at(table, i).cycle < t {
+        if row_at(edition, table, i).cycle < t {
             earlier += 1;
         }
     }
-    HEADER_BYTES + ROW_BYTES * earlier
+    row_place(edition, earlier)
 }

@@ -22,8 +22,8 @@ fn put_row(table: &[u8], row: usize)
     let at = 8 + 8 * row;
     put(b"", numbers::byte(table, at) as u64);
     put(b" ", numbers::byte(table, at + 1) as u64);
-    put(b" ", numbers::triple(table, at + 2) as u64);
-    put(b" ", numbers::triple(table, at + 5) as u64);
+    put(b" ", numbers::number(table, at + 2, 3) as u64);
+    put(b" ", numbers::number(table, at + 5, 3) as u64);
     io::write_all(OUTPUT, b"\n");
 }
 

@@ -1,5 +1,6 @@
 pub mod Truth
 pub mod Sets
+pub mod Loops
 pub mod Says
 pub mod Refusals
 pub mod Lawful

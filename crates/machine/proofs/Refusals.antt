@@ -1,18 +1,23 @@
 -- What a refusal table means: a number is given at a place exactly when its line is at fault there, at no lower place of
--- that line, and no earlier line is at fault anywhere. Assumes nothing.
-use Prim.Native.Nat.{ℕ, _<_}
-use native.Mathlib.Nat.{le-refl, not-suc-le-zero}
+-- that line, and no earlier line is at fault anywhere. Then how a table is judged part by part, line by line and place by
+-- place. Assumes nothing.
+use Prim.Native.Nat.{ℕ, zero, suc, _+_, _≤_, _<_}
+use native.Mathlib.Nat.{le-refl, lt-suc-self, not-suc-le-zero}
+use native.Mathlib.Numerals.{add-one}
 use native.Mathlib.Omega.{arith}
-use mathlib.Core.Path.{_≡_, refl, _∙_, ap, subst₂}
+use mathlib.Core.Path.{_≡_, refl, sym, _∙_, ap, ap₂, subst, subst₂}
 use mathlib.Core.Logic.{_⊎_, inl, inr, ⊎-elim, _↔_}
-use mathlib.Core.Bool.{Bool, not}
+use mathlib.Core.Bool.{Bool, true, false, cond, not, _&&_}
 use mathlib.Core.List.{List, [], _∷_, _++_}
-use lib.Dec.{T}
-use borrow.Author.Tests.{lt-ltb, le-ltb}
-use Rattle.machine.specs.Sets.{firstBelow, anyBelow}
-use Rattle.machine.specs.Refusals.{Line, placeless, taken, refused, judge}
-use Rattle.machine.proofs.Truth.{decided}
-use Rattle.machine.proofs.Sets.{First, first-none, first-some, first-unique, any-failed, none-any}
+use lib.Dec.{T, eqb, ltb, eqb-refl}
+use lib.ListN.{length, drop, getD}
+use lib.Seq.{drop-cons}
+use borrow.Author.Tests.{lt-ltb, le-ltb, ne-eqb}
+use Rattle.machine.specs.Sets.{firstBelow, anyBelow, listBelow}
+use Rattle.machine.specs.Refusals.{Line, placeless, lineAt, Verdict, taken, refused, judge}
+use Rattle.machine.proofs.Truth.{both, and-not, decided, true-of, false-of, of-true, of-false}
+use Rattle.machine.proofs.Sets.{First, first-none, first-some, first-unique, any-failed, none-any, below-cases}
+use Rattle.machine.proofs.Loops.{SoFar}
 
 -- no place of the line is at fault
 abbrev pub Passes : Line → Type 0
@@ -106,15 +111,93 @@ pass-append ls ms = (to ls, λ h. from (h .0) (h .1))
     from none k = k
     from (and h r) k = and h (from r k)
 
+-- the first verdict, or the second where the first is taken
+unfoldable pub otherwise : Verdict → Verdict → Verdict
+otherwise taken v = v
+otherwise (refused k p) v = refused k p
+
+-- the rest of a table counts where its first part passes
+pub judge-append : (ls ms : List Line) → judge (ls ++ ms) ≡ otherwise (judge ls) (judge ms)
+unfolding judge otherwise
+judge-append [] ms = refl
+judge-append (l ∷ ls) ms = by (ltb (firstBelow (l .places) (l .fault)) (l .places)) (judge-append ls ms)
+  where
+    by : (b : Bool) → judge (ls ++ ms) ≡ otherwise (judge ls) (judge ms)
+        → cond b (refused (l .number) (firstBelow (l .places) (l .fault))) (judge (ls ++ ms))
+        ≡ otherwise (cond b (refused (l .number) (firstBelow (l .places) (l .fault))) (judge ls)) (judge ms)
+    by true e = refl
+    by false e = e
+
 -- lines that pass do not matter
 pub judge-after : {ls : List Line} → AllPass ls → (ms : List Line) → judge (ls ++ ms) ≡ judge ms
-judge-after none ms = refl
-judge-after (and {l = l} {ls = ls} h r) ms = judge-passes l (ls ++ ms) h ∙ judge-after r ms
+unfolding otherwise
+judge-after {ls} h ms = judge-append ls ms ∙ rw (passes-judge h) refl
+
+-- A walk through a table of n lines has passed those before line i.
+pub record Walked (ls : List Line) (n i : ℕ) : Type 0 where
+  pub within : i ≤ n
+  pub rest : judge ls ≡ judge (drop i ls)
+
+-- A walk goes on with what its line says: the rest of the table counts where the line passes.
+pub walk-on : {ls : List Line} {n i : ℕ} {v : Verdict} → Walked ls n i → i < length ls
+    → v ≡ judge (getD ls i (placeless 0 false) ∷ []) → judge ls ≡ otherwise v (judge (drop (i + 1) ls))
+walk-on {ls} {n} {i} w h e =
+    w .rest ∙ ap judge (drop-cons ls i (placeless 0 false) h)
+    ∙ judge-append (getD ls i (placeless 0 false) ∷ []) (drop (suc i) ls)
+    ∙ ap₂ (λ (u : Verdict) (k : ℕ). otherwise u (judge (drop k ls))) (sym e) (sym (add-one i))
+
+-- A loop over the places of a line: the first that is at fault, and none after the last.
+module _ (l : Line) (i : ℕ) (past : SoFar (l .fault) false i) where
+  pub refused-at : i < l .places → l .fault i ≡ true → judge (l ∷ []) ≡ refused (l .number) i
+  refused-at h e = judge-fault l [] i (record { below = h; holds = of-true e; least = λ p k. of-false (past p k) })
+
+  pub taken-after : l .places ≤ i → judge (l ∷ []) ≡ taken
+  taken-after h = passes-judge (and (λ p k. of-false (past p (omega arith))) none)
 
 -- a line whose place is not named is its test
+pub placeless-first : (k : ℕ) (b : Bool) (ls : List Line) → judge (placeless k b ∷ ls) ≡ cond b (refused k 0) (judge ls)
+unfolding judge firstBelow anyBelow
+placeless-first k true ls = refl
+placeless-first k false ls = refl
+
 pub placeless-fault : (k : ℕ) (b : Bool) (ls : List Line) → T b → judge (placeless k b ∷ ls) ≡ refused k 0
-placeless-fault k b ls t =
-    judge-fault (placeless k b) ls 0 (record { below = omega arith; holds = t; least = λ i h. absurd (not-suc-le-zero h) })
+placeless-fault k b ls t = placeless-first k b ls ∙ rw (true-of b t) refl
 
 pub placeless-passes : (k : ℕ) (b : Bool) (ls : List Line) → T (not b) → judge (placeless k b ∷ ls) ≡ judge ls
-placeless-passes k b ls t = judge-passes (placeless k b) ls (λ p h. t)
+placeless-passes k b ls t = placeless-first k b ls ∙ rw (false-of b t) refl
+
+-- a line that looks at one place
+line-at : (k p : ℕ) (b : Bool) → judge (lineAt k p b ∷ []) ≡ cond b (refused k p) taken
+line-at k p true =
+    judge-fault (lineAt k p true) [] p (record {
+      below = lt-suc-self p;
+      holds = both (eqb p p) true (eqb-refl p) tt;
+      least = λ q h. subst (λ (c : Bool). T (not (c && true))) (sym (ne-eqb q p (λ e. omega arith))) tt;
+    })
+line-at k p false = passes-judge (and (λ q h. and-not (eqb q p) false (λ t. tt)) none)
+
+-- two lines for the same place
+pub two-at : (j k p : ℕ) (a b : Bool)
+    → judge (lineAt j p a ∷ lineAt k p b ∷ []) ≡ cond a (refused j p) (cond b (refused k p) taken)
+unfolding otherwise
+two-at j k p a b =
+    judge-append (lineAt j p a ∷ []) (lineAt k p b ∷ []) ∙ ap₂ otherwise (line-at j p a) (line-at k p b) ∙ by a
+  where
+    by : (c : Bool) → otherwise (cond c (refused j p) taken) (cond b (refused k p) taken) ≡ cond c (refused j p) (cond b (refused k p) taken)
+    by true = refl
+    by false = refl
+
+-- tables of the places 0, 1 and on: the first that refuses decides
+module _ (f : ℕ → List Line) where
+  pub list-more : (i : ℕ) → judge (listBelow i f) ≡ taken → judge (f i) ≡ taken → judge (listBelow (i + 1) f) ≡ taken
+  unfolding listBelow otherwise
+  list-more i before at = rw (add-one i, judge-append (listBelow i f) (f i), before) at
+
+  pub list-refused : (n i k p : ℕ) → i < n → judge (listBelow i f) ≡ taken → judge (f i) ≡ refused k p
+      → judge (listBelow n f) ≡ refused k p
+  unfolding listBelow otherwise
+  list-refused zero i k p h before at = absurd (not-suc-le-zero h)
+  list-refused (suc n) i k p h before at =
+      judge-append (listBelow n f) (f n)
+      ∙ ⊎-elim (λ (l : i < n). ap (λ v. otherwise v (judge (f n))) (list-refused n i k p l before at))
+      (λ (e : i ≡ n). subst (λ (j : ℕ). otherwise (judge (listBelow j f)) (judge (f j)) ≡ refused k p) e (rw before at)) (below-cases h)

@@ -4,7 +4,7 @@
 use Prim.Native.Nat.{ℕ, zero, suc, min, max, _≤_, _<_}
 use native.Mathlib.Nat.{le-refl}
 use native.Mathlib.Omega.{arith}
-use mathlib.Core.Path.{_≡_, refl, sym, _∙_, subst}
+use mathlib.Core.Path.{_≡_, refl, sym, _∙_, ap, subst}
 use mathlib.Core.Logic.{_⊎_, ⊎-elim}
 use mathlib.Core.Bool.{Bool, not, _||_}
 use lib.Dec.{T, leb, leb→le, le→leb}
@@ -62,6 +62,15 @@ module _ (M : Machine) where
             (all-of (M .words) (λ w. not (p w) || finish M t (M .next s x w))
             (λ w k. or-left (not (p w)) (finish M t (M .next s x w)) (none w k)))
             ∙ sym (le-leb 0 t (omega arith));
+      }
+
+  -- two tests that say the same of every word
+  pub worst-same : (s : M .State) (x : ℕ) (p q : ℕ → Bool) (u : ℕ) → ((w : ℕ) → w < M .words → p w ≡ q w) → Worst s x p u → Worst s x q u
+  worst-same s x p q u e a =
+      record {
+        small = a .small;
+        exact = λ t k. sym (all-same (M .words) (λ w. not (p w) || finish M t (M .next s x w)) (λ w. not (q w) || finish M t (M .next s x w))
+            (λ w h. ap (λ (b : Bool). not b || finish M t (M .next s x w)) (e w h))) ∙ a .exact t k;
       }
 
   -- one more next state: the words that pass q are those that pass p and those that lead where v is right

@@ -4,10 +4,12 @@ use native.Mathlib.Nat.{not-suc-le-zero, le-refl, le-of-lt, lt-suc-self, lt-of-l
 use native.Mathlib.Omega.{arith}
 use mathlib.Core.Path.{_≡_, refl, sym, _∙_, ap, ap₂, subst}
 use mathlib.Core.Logic.{_⊎_, inl, inr, ⊎-elim}
-use mathlib.Core.Bool.{Bool, true, false, cond, not, _&&_}
+use mathlib.Core.Bool.{Bool, true, false, cond, not, _&&_, _||_, and-true, and-false}
 use mathlib.Core.List.{List, List·Memᴰ, Memᴰ·append-left, Memᴰ·append-right, List·Memᴰ·append-cases, List·Memᴰ·not-nil}
 use lib.ListN.{length, length-append}
-use lib.Dec.{T, eqb, leb, leb→le, nleb→lt}
+use lib.Arith.{le→nltb}
+use lib.Dec.{T, eqb, leb, ltb, leb→le, le→leb, nleb→lt, nltb→le}
+use borrow.Author.Tests.{lt-ltb, le-ltb}
 use lib.Pow.{pow-pos, pow-mono, pow-add}
 use Rattle.machine.specs.Sets.{has, allBelow, anyBelow, countBelow, firstBelow, maskBelow, listBelow}
 use Rattle.machine.proofs.Truth.{and-left, and-right, both, or-cases, or-left, or-right, not-or-left, not-or-right, decided, contrary, refuted, true-of, false-of, same-test}
@@ -18,6 +20,9 @@ below-cases h = ⊎-elim (λ (e : _ ≡ _). inr e) (λ (l : _ < _). inl l) (eq-o
 
 pub le-or-lt : (a b : ℕ) → (a ≤ b) ⊎ (b < a)
 le-or-lt a b = ⊎-elim (λ (t : T (leb a b)). inl (leb→le a b t)) (λ (t : T (not (leb a b))). inr (nleb→lt a b t)) (decided (leb a b))
+
+pub leb-not : (a b : ℕ) → leb a b ≡ not (ltb b a)
+leb-not a b = same-test (leb a b) (not (ltb b a)) (λ t. le→nltb b a (leb→le a b t)) (λ t. le→leb a b (nltb→le b a t))
 
 pub trichotomy : (a b : ℕ) → (a ≡ b) ⊎ ((a < b) ⊎ (b < a))
 trichotomy a b =
@@ -66,6 +71,24 @@ any-failed n f t i h = refuted (f i) (λ s. contrary (anyBelow n f) (any-of n f 
 
 pub none-any : (n : ℕ) (f : ℕ → Bool) → ((i : ℕ) → i < n → T (not (f i))) → T (not (anyBelow n f))
 none-any n f h = refuted (anyBelow n f) (λ t. let r = any-at n f t in contrary (f (r .0)) (r .2) (h (r .0) (r .1)))
+
+-- it holds nowhere exactly when it fails everywhere
+pub none-all : (n : ℕ) (f : ℕ → Bool) → not (anyBelow n f) ≡ allBelow n (λ j. not (f j))
+none-all n f =
+    same-test (not (anyBelow n f)) (allBelow n (λ j. not (f j))) (λ t. all-of n (λ j. not (f j)) (any-failed n f t))
+    (λ t. none-any n f (all-at n (λ j. not (f j)) t))
+
+-- a test of two parts holds somewhere when one of the parts does
+pub any-or : (n : ℕ) (f g : ℕ → Bool) → (anyBelow n f || anyBelow n g) ≡ anyBelow n (λ j. f j || g j)
+unfolding anyBelow
+any-or zero f g = refl
+any-or (suc n) f g = regroup (anyBelow n f) (f n) (anyBelow n g) (g n) ∙ ap (λ (b : Bool). b || (f n || g n)) (any-or n f g)
+  where
+    regroup : (a b c d : Bool) → ((a || b) || (c || d)) ≡ ((a || c) || (b || d))
+    regroup true b c d = refl
+    regroup false true true d = refl
+    regroup false true false d = refl
+    regroup false false c d = refl
 
 -- equal tests below the bound
 module _ (n : ℕ) (f g : ℕ → Bool) (e : (i : ℕ) → i < n → f i ≡ g i) where
@@ -158,6 +181,13 @@ first-unique n f p r = ⊎-elim (λ (e : firstBelow n f ≡ p). e) (λ (h : (fir
     high : p < firstBelow n f → ⊥
     high h = contrary (f p) (r .holds) (found .least p h)
 
+-- the same for two tests that agree below the bound
+pub first-same : (n : ℕ) (f g : ℕ → Bool) → ((i : ℕ) → i < n → f i ≡ g i) → firstBelow n f ≡ firstBelow n g
+unfolding firstBelow
+first-same zero f g e = refl
+first-same (suc n) f g e =
+    rw (any-same n f g (λ i h. e i (omega arith)), first-same n f g (λ i h. e i (omega arith)), e n (lt-suc-self n)) refl
+
 -- a place at which f holds is at or above the first
 pub first-at-most : (n : ℕ) (f : ℕ → Bool) (i : ℕ) → T (f i) → i < n → firstBelow n f ≤ i
 first-at-most n f i t h =
@@ -205,6 +235,19 @@ count-less (suc n) f g h j l s t =
     gained true b u v = absurd u
     gained false true u v = le-refl 1
     gained false false u v = absurd v
+
+-- numbers from n on are not counted
+pub count-cut : (m n : ℕ) (f : ℕ → Bool) → n ≤ m → countBelow m (λ j. f j && ltb j n) ≡ countBelow n f
+unfolding countBelow
+count-cut m n f h = subst (λ (k : ℕ). countBelow k (λ j. f j && ltb j n) ≡ countBelow n f) total (further (m - n))
+  where
+    total : n + (m - n) ≡ m
+    total = omega arith
+
+    further : (d : ℕ) → countBelow (n + d) (λ j. f j && ltb j n) ≡ countBelow n f
+    further zero =
+        rw (add-zero n) (count-same n (λ j. f j && ltb j n) f (λ j l. ap (λ (t : Bool). f j && t) (lt-ltb j n l) ∙ and-true (f j)))
+    further (suc d) = rw (add-suc n d, le-ltb (n + d) n (omega arith), and-false (f (n + d))) (add-zero _ ∙ further d)
 
 -- members
 pub has-zero : (j : ℕ) → has 0 j ≡ false

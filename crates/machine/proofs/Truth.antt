@@ -1,7 +1,7 @@
 -- Laws of tests: conjunction, disjunction, negation and the two values. Assumes nothing.
-use mathlib.Core.Path.{_≡_, refl, sym, subst}
+use mathlib.Core.Path.{_≡_, refl, sym, ap₂, subst}
 use mathlib.Core.Logic.{_⊎_, inl, inr}
-use mathlib.Core.Bool.{Bool, true, false, not, _&&_, _||_}
+use mathlib.Core.Bool.{Bool, true, false, not, _&&_, _||_, and-true, and-false}
 use lib.Dec.{T}
 
 pub and-left : (a b : Bool) → T (a && b) → T a
@@ -90,3 +90,29 @@ same-test true true f g = refl
 same-test true false f g = absurd (f tt)
 same-test false true f g = absurd (g tt)
 same-test false false f g = refl
+
+pub and-same : {a b s t : Bool} → a ≡ b → s ≡ t → (a && s) ≡ (b && t)
+and-same p q = ap₂ (λ (s t : Bool). s && t) p q
+
+-- conjunctions in another order
+pub and-turn : (a b c : Bool) → ((a && b) && c) ≡ ((b && c) && a)
+and-turn true b c = sym (and-true (b && c))
+and-turn false b c = sym (and-false (b && c))
+
+pub and-past : (a b c : Bool) → (a && (b && c)) ≡ ((a && c) && b)
+and-past true true c = sym (and-true c)
+and-past true false c = sym (and-false c)
+and-past false b c = refl
+
+-- the last test stands for another where e holds
+pub and-swap : (k e s d b : Bool) → (T e → d ≡ b) → (((k && e) && s) && d) ≡ (((k && s) && b) && e)
+and-swap true true s d b h = rw (h tt) (sym (and-true (s && b)))
+and-swap true false s d b h = sym (and-false (s && b))
+and-swap false e s d b h = refl
+
+-- the fourth test comes last
+pub and-last : (a b h f x d : Bool) → (((((a && b) && h) && f) && x) && d) ≡ (((((a && b) && h) && x) && d) && f)
+and-last true true true f x d = and-turn f x d
+and-last true true false f x d = refl
+and-last true false h f x d = refl
+and-last false b h f x d = refl

@@ -9,13 +9,13 @@ use mathlib.Core.Bool.{Bool, true, false, cond, not, _&&_, _||_, and-true, and-f
 use lib.Dec.{T, eqb, ltb, lit<, eqb→eq, ltb→lt, lt→ltb}
 use lib.Arith.{lt-one}
 use lib.Bits.{bitAnd, bitOr, and-le-l, and-shr, and-mod, or-lt, or-step, or-zero-r, or-shr, or-mod}
-use lib.Count.{ones, ones-cat, trailingZeros, under}
+use lib.Count.{ones, ones-cat, trailingZeros, under, trailing-of-zero}
 use lib.Pow.{pow-pos, pow-mono, pow-lt, ones-lt, shl-exact, split, shr-shr}
 use mir.Val.{boolByte}
 use borrow.Author.Tests.{eq-eqb, ne-eqb, lt-ltb, le-ltb}
-use Rattle.machine.specs.Sets.{has, anyBelow, countBelow, maskBelow}
+use Rattle.machine.specs.Sets.{has, anyBelow, countBelow, firstBelow, maskBelow}
 use Rattle.machine.proofs.Truth.{and-left, and-right, both, contrary, of-true, of-false, same-test}
-use Rattle.machine.proofs.Sets.{First, le-or-lt, trichotomy, any-at, any-of, none-any, any-failed, any-same, has-zero, has-high, has-above, has-mod, has-top, has-mask, mask-same, mask-of-has, count-same, member, member-below, set-below}
+use Rattle.machine.proofs.Sets.{First, le-or-lt, trichotomy, any-at, any-of, none-any, any-failed, any-same, first-none, first-unique, has-zero, has-high, has-above, has-mod, has-top, has-mask, mask-same, mask-of-has, count-same, member, member-below, set-below}
 
 -- A digit is 0 or 1.
 digit-lt : (m : ℕ) → m % 2 < 2
@@ -255,3 +255,11 @@ lowest (suc n) m h k = here (m % 2) refl (lowest n (m / 2))
       where
         one : m % 2 ≡ 1
         one = omega arith
+
+-- the lowest member, and n where there is none
+pub first-member : (n m : ℕ) → m < 2 ^ n → trailingZeros n m ≡ firstBelow n (has m)
+first-member n m h =
+    ⊎-elim
+    (λ (e : m ≡ 0). ap (trailingZeros n) e ∙ trailing-of-zero n
+    ∙ sym (first-none n (has m) (none-any n (has m) (λ j l. of-false (ap (λ (k : ℕ). has k j) e ∙ has-zero j)))))
+    (λ (k : 0 < m). sym (first-unique n (has m) (trailingZeros n m) (lowest n m h k))) (eq-zero-or-pos m)

@@ -7,10 +7,10 @@ use Rattle.machine.specs.Machine.{finish, remaining, leads, best, run, holds, a
 use Rattle.machine.specs.Tables.{rises, standsAt, hasRow, prescribed, follows, continues, lastCycle, orderLine, soundLines, scheduleRows}
 use Rattle.meaning.specs.Graph.{known, mostOperations, mostClasses, mostControls, mostArcs, operationBytes, arcBytes, byteAt, littleEndian, numberAt, editionOf, operationsOf, classesOf, controlsOf, arcsOf, operationsStart, controlsStart, arcsStart, fileEnd, fileLines, content, names, misnamed, lacks, operationCount, classCount, controlCount, arcCount, limit, class, path, producer, source, target, kind, joins, strayPath, unordered, followsJoin, contentLines}
 use Rattle.meaning.specs.Steps.{resolved, lost, excluded, void, complete, heldBack, demanded, overfull, legal, after, before, same}
-use Rattle.meaning.specs.TableFile.{maskBytes, rowBytes, mostRows, rowStart, cyclesOf, rowsOf, layoutLine, tableIn, bytesOf, rowFile, rowFiles, tableFile, scheduleFile}
+use Rattle.meaning.specs.TableFile.{maskBytes, rowBytes, mostRows, rowStart, cyclesOf, rowsOf, layoutLine, tableIn, bytesOf, headerFile, rowFile, rowFiles, tableFile, scheduleFile}
 use Rattle.meaning.specs.Answers.{answer, isTaken, graphLines, graphVerdict, scheduleLines, scheduleVerdict, scheduler, slotsAfter, tableAfter, tableLines, checkVerdict, checker}
 use Rattle.meaning.specs.Cases.{computed, expected, padded, cases}
 
 pub cases-hold : map computed cases ≡ map expected cases
-unfolding has allBelow anyBelow countBelow firstBelow maskBelow listBelow judge finish remaining leads best run holds added successors flatMap reached stateCount rises standsAt hasRow prescribed follows continues lastCycle orderLine soundLines scheduleRows known mostOperations mostClasses mostControls mostArcs operationBytes arcBytes byteAt littleEndian numberAt editionOf operationsOf classesOf controlsOf arcsOf operationsStart controlsStart arcsStart fileEnd fileLines content names misnamed lacks operationCount classCount controlCount arcCount limit class path producer source target kind joins strayPath unordered followsJoin contentLines resolved lost excluded void complete heldBack demanded overfull legal after before same maskBytes rowBytes mostRows rowStart cyclesOf rowsOf layoutLine tableIn bytesOf rowFile rowFiles tableFile scheduleFile answer isTaken graphLines graphVerdict scheduleLines scheduleVerdict scheduler slotsAfter tableAfter tableLines checkVerdict checker computed expected padded
+unfolding has allBelow anyBelow countBelow firstBelow maskBelow listBelow judge finish remaining leads best run holds added successors flatMap reached stateCount rises standsAt hasRow prescribed follows continues lastCycle orderLine soundLines scheduleRows known mostOperations mostClasses mostControls mostArcs operationBytes arcBytes byteAt littleEndian numberAt editionOf operationsOf classesOf controlsOf arcsOf operationsStart controlsStart arcsStart fileEnd fileLines content names misnamed lacks operationCount classCount controlCount arcCount limit class path producer source target kind joins strayPath unordered followsJoin contentLines resolved lost excluded void complete heldBack demanded overfull legal after before same maskBytes rowBytes mostRows rowStart cyclesOf rowsOf layoutLine tableIn bytesOf headerFile rowFile rowFiles tableFile scheduleFile answer isTaken graphLines graphVerdict scheduleLines scheduleVerdict scheduler slotsAfter tableAfter tableLines checkVerdict checker computed expected padded
 cases-hold = refl

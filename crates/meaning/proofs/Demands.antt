@@ -24,7 +24,7 @@ use Rattle.meaning.specs.Graph.{Graph, content, operationCount}
 use Rattle.meaning.specs.Steps.{State, machineOf}
 use Rattle.meaning.specs.TableFile.{maskBytes, mostRows, cyclesOf, layoutLine, tableIn, scheduleFile}
 use Rattle.meaning.specs.Answers.{graphLines, graphVerdict, scheduleLines, scheduleVerdict, tableLines, checkVerdict}
-use Rattle.meaning.proofs.Taken.{Filed, graph-of, operation-most, control-most}
+use Rattle.meaning.proofs.Taken.{Filed, graph-of, within, few-operations, few-controls}
 use Rattle.meaning.proofs.Legal.{done-below}
 use Rattle.meaning.proofs.Instance.{lawful}
 use Rattle.meaning.proofs.TableFile.{Fits, AllFit, file-cycles, file-passes}
@@ -40,7 +40,7 @@ run-done g f (suc t) w = either (machineOf g .complete s) (run-done g f t w)
 
     either : (b : Bool) → s .done < 2 ^ operationCount g → cond b s (machineOf g .next s (f (suc t) s) w) .done < 2 ^ operationCount g
     either true h = h
-    either false h = done-below g (s .done) (s .values) (f (suc t) s) w
+    either false h = done-below g s (f (suc t) s) w
 
 -- For a graph file that is taken.
 module _ (file : List ℕ) (ok : graphVerdict file ≡ taken) where
@@ -109,12 +109,12 @@ module _ (file : List ℕ) (ok : graphVerdict file ≡ taken) where
     unfolding mostRows
     few-rows =
         le-trans (schedule-length machineIn lawful-in)
-        (mul-le-mul (le-trans found (operation-most file filed)) (pow-mono (control-most file filed)))
+        (mul-le-mul (le-trans found (few-operations (within file filed))) (pow-mono (few-controls (within file filed))))
 
     -- done sets and steps are below 2 to the number of operations, so they fit their bytes
     fits-of : (x : ℕ) → x < 2 ^ operationCount (content file) → x < 256 ^ maskBytes (content file .edition)
     unfolding maskBytes
-    fits-of x h = lt-of-lt-of-le h (pow-mono (operation-most file filed))
+    fits-of x h = lt-of-lt-of-le h (pow-mono (few-operations (within file filed)))
 
     row-fits : (p : ℕ) → zero < p → p ≤ schedule machineIn .rows → Fits (content file) (schedule machineIn .row p)
     row-fits p h k =

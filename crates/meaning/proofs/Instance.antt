@@ -59,35 +59,35 @@ Agrees g s w = (b : ℕ) → b < controlCount g → T (settled g s b) → has w 
 -- A step x from s in a taken graph, where the operation of every control is one of the graph's.
 module _ (g : Graph) (taken : Taken g) (s : State) (x : ℕ) where
   abbrev pub next : ℕ → State
-  next w = after g (s .done) (s .values) x w
+  next w = after g s x w
 
-  pub rank-falls : (w : ℕ) → T (legal g (s .done) (s .values) x) → undone g (next w) < undone g s
+  pub rank-falls : (w : ℕ) → T (legal g s x) → undone g (next w) < undone g s
   rank-falls w t =
       let n = operationCount g in
-      let r = legal-means g (s .done) (s .values) x .0 t in
+      let r = legal-means g s x .0 t in
       let m = member n x (set-below n x (λ j h. r .fresh j h .0)) (r .filled) in
       count-less n (λ j. not (has (next w .done) j)) (λ j. not (has (s .done) j))
-      (λ j h u. refuted (has (s .done) j) (λ v. contrary (has (next w .done) j) (history g (s .done) (s .values) x w j v h) u))
+      (λ j h u. refuted (has (s .done) j) (λ v. contrary (has (next w .done) j) (history g s x w j v h) u))
       (m .0) (m .1)
-      (not-not-intro (has (next w .done) (m .0)) (members-done g (s .done) (s .values) x w (m .0) (m .2) (m .1)))
+      (not-not-intro (has (next w .done) (m .0)) (members-done g s x w (m .0) (m .2) (m .1)))
       (r .fresh (m .0) (m .2) .1)
 
   settled-stays : (w b : ℕ) → b < controlCount g → T (settled g s b) → T (settled g (next w) b)
   unfolding resolved
-  settled-stays w b h t = history g (s .done) (s .values) x w (producer g b) t (taken .producer-below b h)
+  settled-stays w b h t = history g s x w (producer g b) t (taken .producer-below b h)
 
   settled-begun : (w b : ℕ) → b < controlCount g → T (has x (producer g b)) → T (settled g (next w) b)
   unfolding resolved
-  settled-begun w b h t = members-done g (s .done) (s .values) x w (producer g b) t (taken .producer-below b h)
+  settled-begun w b h t = members-done g s x w (producer g b) t (taken .producer-below b h)
 
   settled-cases : (w b : ℕ) → T (settled g (next w) b) → T (settled g s b) ⊎ T (has x (producer g b))
   unfolding resolved
-  settled-cases w b t = nothing-else g (s .done) (s .values) x w (producer g b) t .1
+  settled-cases w b t = nothing-else g s x w (producer g b) t .1
 
   agrees-next : (w : ℕ) → Agrees g s w → Agrees g (next w) w
   agrees-next w on b h t =
-      ⊎-elim (λ (k : T (settled g s b)). on b h k ∙ sym (fork-kept g (s .done) (s .values) x w b h k))
-      (λ (k : T (not (settled g s b))). sym (fork-taken g (s .done) (s .values) x w b h k (begun k))) (decided (settled g s b))
+      ⊎-elim (λ (k : T (settled g s b)). on b h k ∙ sym (fork-kept g s x w b h k))
+      (λ (k : T (not (settled g s b))). sym (fork-taken g s x w b h k (begun k))) (decided (settled g s b))
     where
       begun : T (not (settled g s b)) → T (has x (producer g b))
       begun k =
@@ -95,22 +95,22 @@ module _ (g : Graph) (taken : Taken g) (s : State) (x : ℕ) where
           (settled-cases w b t)
 
   agrees-back : (w v : ℕ) → Agrees g (next w) v → Agrees g s v
-  agrees-back w v on b h t = on b h (settled-stays w b h t) ∙ fork-kept g (s .done) (s .values) x w b h t
+  agrees-back w v on b h t = on b h (settled-stays w b h t) ∙ fork-kept g s x w b h t
 
   agrees-same : (w v : ℕ) → Agrees g (next w) v → next v ≡ next w
   unfolding after
   agrees-same w v on =
       state-ext (next v) (next w) refl
-      (set-ext (controlCount g) (next v .values) (next w .values) (values-below g (s .done) (s .values) x v)
-      (values-below g (s .done) (s .values) x w) each)
+      (set-ext (controlCount g) (next v .values) (next w .values) (values-below g s x v)
+      (values-below g s x w) each)
     where
       each : (b : ℕ) → b < controlCount g → has (next v .values) b ≡ has (next w .values) b
       each b h =
-          ⊎-elim (λ (k : T (settled g s b)). fork-kept g (s .done) (s .values) x v b h k ∙ sym (fork-kept g (s .done) (s .values) x w b h k))
+          ⊎-elim (λ (k : T (settled g s b)). fork-kept g s x v b h k ∙ sym (fork-kept g s x w b h k))
           (λ (k : T (not (settled g s b))). ⊎-elim
-          (λ (u : T (has x (producer g b))). fork-taken g (s .done) (s .values) x v b h k u ∙ on b h (settled-begun w b h u))
+          (λ (u : T (has x (producer g b))). fork-taken g s x v b h k u ∙ on b h (settled-begun w b h u))
           (λ (u : T (not (has x (producer g b)))).
-          fork-open g (s .done) (s .values) x v b h k u ∙ sym (fork-open g (s .done) (s .values) x w b h k u))
+          fork-open g s x v b h k u ∙ sym (fork-open g s x w b h k u))
           (decided (has x (producer g b)))) (decided (settled g s b))
 
 agrees-start : (g : Graph) (w : ℕ) → Agrees g (machineOf g .start) w
@@ -123,9 +123,9 @@ lawful g taken =
       rank = undone g;
       rank-start = count-le (operationCount g) (λ j. not (has 0 j));
       rank-falls = rank-falls g taken;
-      step-below = λ s x t. set-below (operationCount g) x (λ j h. legal-means g (s .done) (s .values) x .0 t .fresh j h .0);
+      step-below = λ s x t. set-below (operationCount g) x (λ j h. legal-means g s x .0 t .fresh j h .0);
       word-start = pow-pos (controlCount g);
-      word-next = λ s x w. values-below g (s .done) (s .values) x w;
+      word-next = λ s x w. values-below g s x w;
       same-eq = λ r s t. let e = says-same r s .to t in state-ext r s (e .0) (e .1);
       eq-same = λ s. says-same s s .from (refl, refl);
       before-not = before-not;

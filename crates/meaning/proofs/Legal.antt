@@ -9,7 +9,7 @@ use Rattle.machine.specs.Sets.{has, allBelow, countBelow}
 use Rattle.machine.proofs.Truth.{or-cases, or-left, or-right, true-of, false-of}
 use Rattle.machine.proofs.Sets.{member-below, set-below, has-high, has-mask, mask-lt}
 use Rattle.meaning.specs.Graph.{Graph, Literals, operationCount, classCount, controlCount, arcCount, limit, class, path, producer, source, target, kind, joins}
-use Rattle.meaning.specs.Steps.{resolved, lost, excluded, void, complete, heldBack, demanded, overfull, legal, after}
+use Rattle.meaning.specs.Steps.{State, resolved, lost, excluded, void, complete, heldBack, demanded, overfull, legal, after}
 use Rattle.machine.proofs.Says.{Says, says-test, denies-test, says-ltb, denies-ltb, says-eqb, says-not, denies-not, says-and, says-or, says-implies, denies-and, says-all, says-any, denies-any}
 
 -- A literal of l is lost: its control is resolved, to the other side.
@@ -22,16 +22,16 @@ pub record Lost (g : Graph) (done values : ℕ) (l : Literals) : Type 0 where
 
 -- The constraints on a step, in document 01's order: the house rule; (1) and (2); (3); (6); (7). History (4) and fork (5)
 -- are about the next state, below.
-pub record Legal (g : Graph) (done values step : ℕ) : Type 0 where
+pub record Legal (g : Graph) (s : State) (step : ℕ) : Type 0 where
   pub filled : 0 < step
-  pub fresh : (j : ℕ) → T (has step j) → (j < operationCount g) × T (not (has done j))
-  pub dependency : (a : ℕ) → a < arcCount g → T (has step (target g a)) → T (not (void g done values a))
-      → T (has done (source g a))
+  pub fresh : (j : ℕ) → T (has step j) → (j < operationCount g) × T (not (has (s .done) j))
+  pub dependency : (a : ℕ) → a < arcCount g → T (has step (target g a)) → T (not (void g (s .done) (s .values) a))
+      → T (has (s .done) (source g a))
   pub resource : (k : ℕ) → k < classCount g
       → countBelow (operationCount g) (λ j. has step j && eqb (class g j) k) ≤ limit g k
-  pub exclusion : (j : ℕ) → T (has step j) → T (not (excluded g done values j))
-  pub immediacy : (a : ℕ) → a < arcCount g → kind g a ≡ 1 → target g a < operationCount g → T (has done (source g a))
-      → T (not (has done (target g a))) → T (has step (target g a))
+  pub exclusion : (j : ℕ) → T (has step j) → T (not (excluded g (s .done) (s .values) j))
+  pub immediacy : (a : ℕ) → a < arcCount g → kind g a ≡ 1 → target g a < operationCount g → T (has (s .done) (source g a))
+      → T (not (has (s .done) (target g a))) → T (has step (target g a))
 
 module _ (g : Graph) (done values : ℕ) where
   pub lost-means : (l : Literals) → T (lost g done values l) ↔ Lost g done values l
@@ -52,7 +52,14 @@ module _ (g : Graph) (done values : ℕ) where
   unfolding void
   void-means a = lost-means (joins g a)
 
-  pub complete-means : T (complete g done values)
+module _ (g : Graph) (s : State) where
+  abbrev done : ℕ
+  done = s .done
+
+  abbrev values : ℕ
+  values = s .values
+
+  pub complete-means : T (complete g s)
       ↔ ((j : ℕ) → j < operationCount g → T (has done j) ⊎ T (excluded g done values j))
   unfolding complete
   complete-means =
@@ -102,7 +109,7 @@ module _ (g : Graph) (done values : ℕ) where
               rw (← e) (p (q .0) (q .1) (q .2 .0 .0 .0) (rw e h) (q .2 .0 .1) (rw e (q .2 .1))));
         }
 
-    pub legal-means : T (legal g done values step) ↔ Legal g done values step
+    pub legal-means : T (legal g s step) ↔ Legal g s step
     unfolding legal overfull
     legal-means =
         let n = operationCount g in
@@ -125,54 +132,54 @@ module _ (g : Graph) (done values : ℕ) where
 
     module _ (word : ℕ) where
       -- History (4): what is done stays done, the members become done, and nothing else.
-      pub done-below : after g done values step word .done < 2 ^ operationCount g
+      pub done-below : after g s step word .done < 2 ^ operationCount g
       unfolding after
       done-below = mask-lt (operationCount g) (λ j. has done j || has step j)
 
       after-done : (j : ℕ) → j < operationCount g
-          → has (after g done values step word .done) j ≡ (has done j || has step j)
+          → has (after g s step word .done) j ≡ (has done j || has step j)
       unfolding after
       after-done = has-mask (operationCount g) (λ j. has done j || has step j)
 
-      pub history : (j : ℕ) → T (has done j) → j < operationCount g → T (has (after g done values step word .done) j)
+      pub history : (j : ℕ) → T (has done j) → j < operationCount g → T (has (after g s step word .done) j)
       history j t h = rw (after-done j h) (or-left (has done j) (has step j) t)
 
       pub members-done : (j : ℕ) → T (has step j) → j < operationCount g
-          → T (has (after g done values step word .done) j)
+          → T (has (after g s step word .done) j)
       members-done j t h = rw (after-done j h) (or-right (has done j) (has step j) t)
 
-      pub nothing-else : (j : ℕ) → T (has (after g done values step word .done) j)
+      pub nothing-else : (j : ℕ) → T (has (after g s step word .done) j)
           → (j < operationCount g) × (T (has done j) ⊎ T (has step j))
       nothing-else j t =
-          let h = member-below (operationCount g) (after g done values step word .done) j done-below t in
+          let h = member-below (operationCount g) (after g s step word .done) j done-below t in
           (h, or-cases (has done j) (has step j) (subst T (after-done j h) t))
 
       -- Fork (5): a value stays; a control that the step begins takes the word's; all other value bits are 0.
-      pub values-below : after g done values step word .values < 2 ^ controlCount g
+      pub values-below : after g s step word .values < 2 ^ controlCount g
       unfolding after
       values-below =
           mask-lt (controlCount g) (λ b. cond (resolved g done values b) (has values b) (has step (producer g b) && has word b))
 
       after-values : (b : ℕ) → b < controlCount g
-          → has (after g done values step word .values) b
+          → has (after g s step word .values) b
           ≡ cond (resolved g done values b) (has values b) (has step (producer g b) && has word b)
       unfolding after
       after-values =
           has-mask (controlCount g) (λ b. cond (resolved g done values b) (has values b) (has step (producer g b) && has word b))
 
       pub fork-kept : (b : ℕ) → b < controlCount g → T (resolved g done values b)
-          → has (after g done values step word .values) b ≡ has values b
+          → has (after g s step word .values) b ≡ has values b
       fork-kept b h t = after-values b h ∙ rw (true-of (resolved g done values b) t)
 
       pub fork-taken : (b : ℕ) → b < controlCount g → T (not (resolved g done values b)) → T (has step (producer g b))
-          → has (after g done values step word .values) b ≡ has word b
+          → has (after g s step word .values) b ≡ has word b
       fork-taken b h t s =
           after-values b h ∙ rw (false-of (resolved g done values b) t, true-of (has step (producer g b)) s)
 
       pub fork-open : (b : ℕ) → b < controlCount g → T (not (resolved g done values b)) → T (not (has step (producer g b)))
-          → has (after g done values step word .values) b ≡ false
+          → has (after g s step word .values) b ≡ false
       fork-open b h t s =
           after-values b h ∙ rw (false-of (resolved g done values b) t, false-of (has step (producer g b)) s)
 
-      pub fork-above : (b : ℕ) → controlCount g ≤ b → has (after g done values step word .values) b ≡ false
-      fork-above b h = has-high (after g done values step word .values) (controlCount g) b values-below h
+      pub fork-above : (b : ℕ) → controlCount g ≤ b → has (after g s step word .values) b ≡ false
+      fork-above b h = has-high (after g s step word .values) (controlCount g) b values-below h

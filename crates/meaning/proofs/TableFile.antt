@@ -16,7 +16,7 @@ use Rattle.machine.proofs.Views.{order-view, lines-view}
 use Rattle.machine.proofs.Rising.{tableOf}
 use Rattle.meaning.specs.Graph.{Graph, byteAt, littleEndian, numberAt}
 use Rattle.meaning.specs.Steps.{machineOf}
-use Rattle.meaning.specs.TableFile.{maskBytes, rowBytes, mostRows, rowStart, cyclesOf, rowsOf, layoutLine, tableIn, bytesOf, rowFile, rowFiles, tableFile}
+use Rattle.meaning.specs.TableFile.{maskBytes, rowBytes, mostRows, rowStart, cyclesOf, rowsOf, layoutLine, tableIn, bytesOf, headerFile, rowFile, rowFiles, tableFile}
 use Rattle.meaning.specs.Answers.{tableLines}
 use Rattle.meaning.proofs.Bytes.{AreBytes, empty, more, append-small, bytes-small, bytes-length, bytes-number, byte-at, byte-after, number-at, number-after}
 
@@ -29,6 +29,19 @@ most-small edition = omega arith
 pub row-end : (edition n : ℕ) → rowStart edition (suc n) ≡ 8 + rowBytes edition * n
 unfolding rowStart
 row-end edition n = ap (λ (k : ℕ). 8 + rowBytes edition * k) (omega arith)
+
+-- before the first
+pub row-first : (edition : ℕ) → rowStart edition 1 ≡ 8
+row-first edition = rw (row-end, mul-zero) refl
+
+-- one row more
+pub row-next : (edition n : ℕ) → rowStart edition (suc (suc n)) ≡ rowStart edition (suc n) + rowBytes edition
+row-next edition n = rw (row-end, row-end, mul-suc) (omega arith)
+
+-- where a table ends is a number of two bytes
+pub row-small : (edition n : ℕ) → n ≤ mostRows edition → rowStart edition (suc n) < 256 ^ 2
+unfolding rowStart rowBytes maskBytes mostRows
+row-small edition n h = omega arith
 
 -- a file of the right layout is as long as its rows ask
 pub layout-length : (edition : ℕ) (file : List ℕ) → Passes (layoutLine edition file) → length file ≡ rowStart edition (suc (rowsOf file))
@@ -135,25 +148,25 @@ module _ (g : Graph) where
 
   module _ (cycles : ℕ) (rows : List (Row (machineOf g))) where
     pub file-length : length (tableFile g cycles rows) ≡ rowStart (g .edition) (suc (length rows))
-    unfolding tableFile bytesOf
+    unfolding tableFile headerFile bytesOf
     file-length = rw (row-end, rows-length) (omega arith)
 
     pub file-cycles : cyclesOf (tableFile g cycles rows) ≡ cycles
-    unfolding cyclesOf byteAt tableFile
+    unfolding cyclesOf byteAt tableFile headerFile
     file-cycles = refl
 
     pub file-rows : length rows < 256 ^ 2 → rowsOf (tableFile g cycles rows) ≡ length rows
-    unfolding rowsOf numberAt tableFile bytesOf
+    unfolding rowsOf numberAt tableFile headerFile bytesOf
     file-rows h = bytes-number 2 (length rows) h
 
     pub file-row : AllFit rows → (p : ℕ) → 0 < p → p ≤ length rows → (d : Row (machineOf g))
         → tableIn g (tableFile g cycles rows) .row p ≡ getD rows (p - 1) d
-    unfolding tableIn rowStart tableFile bytesOf
+    unfolding tableIn rowStart tableFile headerFile bytesOf
     file-row fit p h k d =
-        rows-read (0x48 ∷ 0x54 ∷ g .edition ∷ cycles ∷ bytesOf 2 (length rows) ++ bytesOf 2 8) rows fit (p - 1) (omega arith) d
+        rows-read (headerFile (g .edition) cycles (length rows)) rows fit (p - 1) (omega arith) d
 
     pub file-layout : length rows ≤ mostRows (g .edition) → Passes (layoutLine (g .edition) (tableFile g cycles rows))
-    unfolding layoutLine byteAt numberAt littleEndian tableFile bytesOf
+    unfolding layoutLine byteAt numberAt littleEndian tableFile headerFile bytesOf
     file-layout h p k = rw (long, eq-eqb (g .edition) (g .edition) refl, few, whole) tt
       where
         file : List ℕ
@@ -197,7 +210,7 @@ module _ (g : Graph) where
 
     pub file-small : g .edition < 256 → cycles < 256
         → ((r : Row (machineOf g)) → List·Memᴰ r rows → (r .cycle < 256) × (r .state .values < 256)) → AreBytes (tableFile g cycles rows)
-    unfolding tableFile
+    unfolding tableFile headerFile
     file-small edition few h =
         append-small
         (append-small (more (omega arith) (more (omega arith) (more edition (more few (bytes-small 2 (length rows)))))) (bytes-small 2 8))

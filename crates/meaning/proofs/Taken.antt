@@ -12,9 +12,10 @@ use lib.Seq.{slice, length-slice}
 use lib.Dec.{T, eqb, leb, ltb, eqb→eq, lit<}
 use Rattle.machine.specs.Sets.{has, anyBelow}
 use Rattle.machine.proofs.Says.{Denies, says-test, denies-test, denies-leb, says-ltb, denies-ltb, says-eqb, denies-eqb, denies-not, says-and, says-or, denies-or, denies-and, denies-any}
-use Rattle.machine.proofs.Refusals.{AllPass, none, and, pass-append}
+use Rattle.machine.specs.Refusals.{taken as accepts}
+use Rattle.machine.proofs.Refusals.{AllPass, none, and, pass-append, judge-taken}
 use Rattle.meaning.specs.Graph.{known, mostOperations, mostClasses, mostControls, mostArcs, operationBytes, arcBytes, byteAt, numberAt, editionOf, operationsOf, classesOf, controlsOf, arcsOf, operationsStart, controlsStart, arcsStart, fileEnd, fileLines, content, Graph, Literals, names, misnamed, lacks, operationCount, classCount, controlCount, arcCount, class, path, producer, source, target, kind, joins, strayPath, unordered, followsJoin, contentLines}
-use Rattle.meaning.specs.Answers.{graphLines}
+use Rattle.meaning.specs.Answers.{graphLines, graphVerdict}
 
 -- The masks have no bit at c or above, and share no bit.
 pub record Named (l : Literals) (c : ℕ) : Type 0 where
@@ -228,7 +229,28 @@ module _ (file : List ℕ) where
         length-right = denies-not (says-eqb (length file) (fileEnd file)) .to (end 0 (lit< tt));
       }
 
--- The content's counts are the header's, and small.
+-- A graph's counts are within its edition's maxima.
+pub record Within (g : Graph) : Type 0 where
+  pub operations : operationCount g ≤ mostOperations (g .edition)
+  pub classes : classCount g ≤ mostClasses (g .edition)
+  pub controls : controlCount g ≤ mostControls (g .edition)
+  pub arcs : arcCount g ≤ mostArcs (g .edition)
+
+-- What every edition keeps to, so that masks, words and slots hold it.
+module _ {g : Graph} (w : Within g) where
+  pub few-operations : operationCount g ≤ 24
+  unfolding mostOperations
+  few-operations = w .operations
+
+  pub few-classes : classCount g ≤ 8
+  unfolding mostClasses
+  few-classes = w .classes
+
+  pub few-controls : controlCount g ≤ 4
+  unfolding mostControls
+  few-controls = w .controls
+
+-- The content's counts are the header's, and within the edition's maxima.
 module _ (file : List ℕ) (f : Filed file) where
   pub edition-one : editionOf file ≡ 1
   unfolding known
@@ -258,25 +280,30 @@ module _ (file : List ℕ) (f : Filed file) where
       ap (λ (k : ℕ). k / 5) (part-length (arcsStart file) (fileEnd file) (le-refl (fileEnd file)) ∙ omega arith)
       ∙ mul-div-right (arcsOf file) {m = 5} (lit< tt)
 
-  pub class-most : classCount (content file) ≤ 8
-  unfolding mostClasses
-  class-most = omega (arith, class-count, f .classes-most)
+  pub within : Within (content file)
+  unfolding content
+  within =
+      record {
+        operations = subst (λ (k : ℕ). k ≤ mostOperations (editionOf file)) (sym operation-count) (f .operations-most);
+        classes = subst (λ (k : ℕ). k ≤ mostClasses (editionOf file)) (sym class-count) (f .classes-most);
+        controls = subst (λ (k : ℕ). k ≤ mostControls (editionOf file)) (sym control-count) (f .controls-most);
+        arcs = subst (λ (k : ℕ). k ≤ mostArcs (editionOf file)) (sym arc-count) (f .arcs-most);
+      }
 
-  pub operation-most : operationCount (content file) ≤ 24
-  unfolding mostOperations
-  operation-most = omega (arith, operation-count, f .operations-most)
-
-  pub control-most : controlCount (content file) ≤ 4
-  unfolding mostControls
-  control-most = omega (arith, control-count, f .controls-most)
-
-  pub arc-most : arcCount (content file) ≤ 276
-  unfolding mostArcs
-  arc-most = omega (arith, arc-count, f .arcs-most)
-
--- A file that passes all of refusals 1 to 11.
+-- A file that passes all of refusals 1 to 11, and its graph.
 pub graph-of : (file : List ℕ) → AllPass (graphLines file) → Filed file × Taken (content file)
 unfolding graphLines
 graph-of file ps =
     let p = pass-append (fileLines file) (contentLines (content file)) .0 ps in
     (filed-of file (p .0), taken-of (content file) (p .1))
+
+-- a graph that passes refusals 1 to 11
+pub record Accepted (g : Graph) : Type 0 where
+  pub taken : Taken g
+  pub within : Within g
+
+pub accepted-of : (file : List ℕ) → graphVerdict file ≡ accepts → Accepted (content file)
+unfolding graphVerdict
+accepted-of file e =
+    let p = graph-of file (judge-taken (graphLines file) .0 e) in
+    record { taken = p .1; within = within file (p .0) }

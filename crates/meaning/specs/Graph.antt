@@ -95,15 +95,16 @@ pub record Graph : Type 0 where
   pub controls : List ℕ
   pub arcs : List ℕ
 
+abbrev pub graphOf : ℕ → List ℕ → List ℕ → List ℕ → List ℕ → Graph
+graphOf edition limits operations controls arcs =
+    record { edition = edition; limits = limits; operations = operations; controls = controls; arcs = arcs }
+
+-- the graph that a file holds
 unfoldable pub content : List ℕ → Graph
 content file =
-    record {
-      edition = editionOf file;
-      limits = slice 16 (operationsStart file) file;
-      operations = slice (operationsStart file) (controlsStart file) file;
-      controls = slice (controlsStart file) (arcsStart file) file;
-      arcs = slice (arcsStart file) (fileEnd file) file;
-    }
+    graphOf (editionOf file) (slice 16 (operationsStart file) file)
+    (slice (operationsStart file) (controlsStart file) file) (slice (controlsStart file) (arcsStart file) file)
+    (slice (arcsStart file) (fileEnd file) file)
 
 -- A set of literals: the controls that it names on the true side, and those on the false side.
 pub record Literals : Type 0 where

@@ -11,7 +11,7 @@ pub record State : Type 0 where
   pub done : ℕ
   pub values : ℕ
 
--- The rules, over the operations done and the values.
+-- The rules for a literal, an operation and an arc, over the operations done and the values.
 module _ (g : Graph) (done values : ℕ) where
   -- control b is resolved: its operation is done
   unfoldable pub resolved : ℕ → Bool
@@ -29,9 +29,6 @@ module _ (g : Graph) (done values : ℕ) where
   unfoldable pub void : ℕ → Bool
   void a = lost (joins g a)
 
-  unfoldable pub complete : Bool
-  complete = allBelow (operationCount g) (λ j. has done j || excluded j)
-
   -- dependency, (1) and (2): an arc into operation j that is not void has a source that is not done
   unfoldable pub heldBack : ℕ → Bool
   heldBack j = anyBelow (arcCount g) (λ a. eqb (target g a) j && not (void a) && not (has done (source g a)))
@@ -41,28 +38,34 @@ module _ (g : Graph) (done values : ℕ) where
   demanded j =
       anyBelow (arcCount g) (λ a. eqb (kind g a) 1 && eqb (target g a) j && has done (source g a) && not (has done j))
 
-  module _ (step : ℕ) where
-    -- resource, (3): class k has more members than its limit
-    unfoldable pub overfull : ℕ → Bool
-    overfull k = ltb (limit g k) (countBelow (operationCount g) (λ j. has step j && eqb (class g j) k))
+-- resource, (3): class k has more members in the step than its limit
+unfoldable pub overfull : Graph → ℕ → ℕ → Bool
+overfull g step k = ltb (limit g k) (countBelow (operationCount g) (λ j. has step j && eqb (class g j) k))
 
+module _ (g : Graph) (s : State) where
+  -- A state is complete when every operation is done or excluded.
+  unfoldable pub complete : Bool
+  complete = allBelow (operationCount g) (λ j. has (s .done) j || excluded g (s .done) (s .values) j)
+
+  module _ (step : ℕ) where
     -- The step is legal: not empty, only operations of the graph that aren't done; dependency; resource; exclusion;
     -- immediacy. History (4) and fork (5) are in `after`.
     unfoldable pub legal : Bool
     legal =
         ltb 0 step
-        && (ltb step (2 ^ operationCount g) && allBelow (operationCount g) (λ j. not (has step j && has done j)))
-        && allBelow (operationCount g) (λ j. not (has step j && heldBack j))
-        && allBelow (classCount g) (λ k. not (overfull k))
-        && allBelow (operationCount g) (λ j. not (has step j && excluded j))
-        && allBelow (operationCount g) (λ j. not (demanded j) || has step j)
+        && (ltb step (2 ^ operationCount g) && allBelow (operationCount g) (λ j. not (has step j && has (s .done) j)))
+        && allBelow (operationCount g) (λ j. not (has step j && heldBack g (s .done) (s .values) j))
+        && allBelow (classCount g) (λ k. not (overfull g step k))
+        && allBelow (operationCount g) (λ j. not (has step j && excluded g (s .done) (s .values) j))
+        && allBelow (operationCount g) (λ j. not (demanded g (s .done) (s .values) j) || has step j)
 
     -- The next state where the controls begun fall as the word says: what is done stays done, a value stays.
     unfoldable pub after : ℕ → State
     after word =
         record {
-          done = maskBelow (operationCount g) (λ j. has done j || has step j);
-          values = maskBelow (controlCount g) (λ b. cond (resolved b) (has values b) (has step (producer g b) && has word b));
+          done = maskBelow (operationCount g) (λ j. has (s .done) j || has step j);
+          values = maskBelow (controlCount g) (λ b.
+              cond (resolved g (s .done) (s .values) b) (has (s .values) b) (has step (producer g b) && has word b));
         }
 
 -- rows of one cycle rise by values, then by done
@@ -78,9 +81,9 @@ machineOf g =
     record {
       State = State;
       start = record { done = 0; values = 0 };
-      complete = λ s. complete g (s .done) (s .values);
-      legal = λ s x. legal g (s .done) (s .values) x;
-      next = λ s x w. after g (s .done) (s .values) x w;
+      complete = complete g;
+      legal = legal g;
+      next = after g;
       same = same;
       before = before;
       word = λ s. s .values;

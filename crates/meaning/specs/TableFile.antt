@@ -64,6 +64,10 @@ unfoldable pub bytesOf : ℕ → ℕ → List ℕ
 bytesOf zero x = []
 bytesOf (suc size) x = x % 256 ∷ bytesOf size (x / 256)
 
+-- the eight bytes of a header: the edition, the cycles, the number of rows, and where the rows start
+unfoldable pub headerFile : ℕ → ℕ → ℕ → List ℕ
+headerFile edition cycles rows = 0x48 ∷ 0x54 ∷ edition ∷ cycles ∷ bytesOf 2 rows ++ bytesOf 2 8
+
 module _ (g : Graph) where
   unfoldable pub rowFile : Row (machineOf g) → List ℕ
   rowFile r =
@@ -76,8 +80,7 @@ module _ (g : Graph) where
 
   -- the file of a table of these cycles and rows
   unfoldable pub tableFile : ℕ → List (Row (machineOf g)) → List ℕ
-  tableFile cycles rows =
-      0x48 ∷ 0x54 ∷ g .edition ∷ cycles ∷ bytesOf 2 (length rows) ++ bytesOf 2 8 ++ rowFiles rows
+  tableFile cycles rows = headerFile (g .edition) cycles (length rows) ++ rowFiles rows
 
   -- the schedule's file
   unfoldable pub scheduleFile : List ℕ

@@ -1,4 +1,5 @@
-// Bytes of a slice, and numbers of two and three bytes, low byte first. A byte beyond the end reads as 0.
+// Bytes of a slice, and numbers of two bytes and of up to four, low byte first. A byte beyond the end reads as 0.
+ghost use Prim.Native.Nat.{min};
 ghost use Rattle.meaning.specs.Graph.{byteAt, numberAt};
 ghost use Rattle.numbers.specs.Reads.{Reads};
 
@@ -20,13 +21,19 @@ pub fn pair(s: &[u8], i: usize) -> u32
     }
 }
 
-// The number of three bytes at i.
-pub fn triple(s: &[u8], i: usize) -> u32
-    ensures { λ r. ⌜ Reads (numberAt (now (s .entry)) i 3) 3 r ⌝ }
+// The number of `size` bytes from i on, and of no more than four.
+pub fn number(s: &[u8], i: usize, size: usize) -> u32
+    ensures { λ r. ⌜ Reads (numberAt (now (s .entry)) i (min size 4)) (min size 4) r ⌝ }
 {
-    if i < s.len() {
-        byte(s, i) + 256 * pair(s, i + 1)
-    } else {
-        0
+    if s.len() <= i {
+        return 0;
     }
+    let rest = &s[i..];
+    let mut left = if size < 4 { size } else { 4 };
+    let mut number: u32 = 0;
+    while 0 < left {
+        left -= 1;
+        number = byte(rest, left) + 256 * number;
+    }
+    number
 }

@@ -1,4 +1,3 @@
-pub mod Chain
 pub mod SetLaws
-pub mod Parts
+pub mod Verdicts
 pub mod Unique

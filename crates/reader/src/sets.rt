@@ -1,8 +1,8 @@
 // Sets of literals: one mask of the controls named on the true side, one of those on the false side.
-use crate::Literals;
+use parts::Literals;
 ghost use mathlib.Core.Path.{_≡_};
 ghost use Rattle.meaning.specs.Graph.{names, misnamed, lacks};
-ghost use Rattle.reader.specs.Reading.{literalsOf};
+ghost use Rattle.parts.specs.Fields.{literalsOf};
 
 // The set names control x, on either side.
 pub(crate) fn names(l: Literals, x: usize) -> bool

@@ -1,34 +1,29 @@
 -- Laws of the scheduler's answers: refusals 12 to 14, and the file that is written. Assumes nothing.
-use Prim.Native.Nat.{ℕ, suc, _+_, _-_, _*_, _≤_, _<_}
-use native.Mathlib.Nat.{le-trans, zero-add}
+use Prim.Native.Nat.{ℕ, suc, _*_, _≤_, _<_}
+use native.Mathlib.Nat.{le-trans, zero-add, mul-comm}
 use native.Mathlib.Omega.{arith}
 use mathlib.Core.Path.{_≡_, refl, sym, _∙_, ap, ap₂, subst}
 use mathlib.Core.Bool.{cond}
 use mathlib.Core.List.{List, [], _∷_, _++_}
-use lib.ListN.{length, take, drop, replicate}
+use lib.ListN.{length, drop, replicate}
 use lib.Arith.{le→nltb}
 use lib.Dec.{ltb, lt→ltb}
 use Rattle.machine.specs.Refusals.{Line, Verdict, taken, refused, placeless, judge}
 use Rattle.machine.specs.Machine.{Machine, remaining, stateCount}
 use Rattle.machine.specs.Tables.{Row, scheduleRows}
 use Rattle.machine.proofs.Sets.{list-length}
-use Rattle.machine.proofs.Refusals.{judge-taken, judge-after, pass-append, placeless-fault, placeless-passes}
+use Rattle.machine.proofs.Refusals.{otherwise, judge-append, judge-taken, judge-after, placeless-fault, placeless-passes}
 use Rattle.machine.proofs.Search.{missing, right-remaining, right-missing}
-use Rattle.meaning.specs.Graph.{Graph, operationBytes, fileLines, contentLines, operationsStart, controlsStart, arcsStart, operationsOf, classesOf, controlsOf, arcsOf, content, operationCount}
+use Rattle.meaning.specs.Graph.{Graph, content}
 use Rattle.meaning.specs.Steps.{machineOf}
-use Rattle.meaning.specs.TableFile.{rowStart, rowBytes, maskBytes, bytesOf, rowFiles, tableFile, scheduleFile}
-use Rattle.meaning.specs.Answers.{Reading, answer, isTaken, reading, reader, graphLines, graphVerdict, scheduleLines, scheduleVerdict, scheduler, slotsAfter, tableAfter}
-use Rattle.meaning.proofs.Taken.{graph-of, operation-most, class-most, control-most}
-use Rattle.meaning.proofs.TableFile.{file-length}
-use Rattle.reader.specs.declared.Read.the-variants.{Refused as RefusedRead, Taken}
-use Rattle.reader.specs.Reading.{valuesOf as valuesRead, graphOf as partsOf}
-use Rattle.reader.proofs.Parts.{laid, cut}
-use Rattle.reader.proofs.Chain.{otherwise, judge-append}
-use Rattle.steps.specs.Parts.{graphOf}
+use Rattle.meaning.specs.TableFile.{mostRows, rowStart, bytesOf, headerFile, rowFiles, tableFile, scheduleFile}
+use Rattle.meaning.specs.Answers.{answer, isTaken, graphLines, graphVerdict, scheduleLines, scheduleVerdict, scheduler, slotsAfter, tableAfter}
+use Rattle.meaning.proofs.Taken.{Accepted, few-operations, few-controls}
+use Rattle.meaning.proofs.TableFile.{row-first, file-length}
 use Rattle.scheduler.specs.declared.Scheduled.{Scheduled}
 use Rattle.scheduler.specs.declared.Scheduled.the-variants.{Refused, Done}
 use Rattle.scheduler.specs.Slots.{Holds}
-use Rattle.scheduler.specs.Search.{Accepted, Store}
+use Rattle.scheduler.specs.Search.{Store}
 use Rattle.scheduler.specs.Rows.{Planning, cycleRows}
 use Rattle.scheduler.specs.Writing.{written}
 use Rattle.scheduler.specs.Promise.{valuesOf, Promised, Answered, laterLines}
@@ -37,22 +32,22 @@ use Rattle.scheduler.proofs.WriteLaws.{written-then}
 
 -- The number that is held with the start is its remaining number, or there is none.
 module _ (g : Graph) (a : Accepted g) (slots : List ℕ) (used number : ℕ) (store : Store g slots used) (held : Holds slots (machineOf g .start) number) where
-  horizon : operationCount g < missing
-  horizon = omega (arith, a .operations)
+  horizon : machineOf g .horizon < missing
+  horizon = omega (arith, few-operations (a .within))
 
-  pub start-number : number ≤ operationCount g → number ≡ remaining (machineOf g) (machineOf g .start)
+  pub start-number : number ≤ machineOf g .horizon → number ≡ remaining (machineOf g) (machineOf g .start)
   start-number h = sym (right-remaining (machineOf g) (machineOf g .start) number (store .good .right (machineOf g .start) number held) horizon h)
 
-  pub planning : number ≤ operationCount g → Planning g slots used
+  pub planning : number ≤ machineOf g .horizon → Planning g slots used
   planning h =
       record {
         accepted = a;
         store = store;
         start = (number, held);
-        numbered = subst (λ (k : ℕ). k ≤ operationCount g) (start-number h) h;
+        numbered = subst (λ (k : ℕ). k ≤ machineOf g .horizon) (start-number h) h;
       }
 
-  pub no-number : operationCount g < number → operationCount g < remaining (machineOf g) (machineOf g .start)
+  pub no-number : machineOf g .horizon < number → machineOf g .horizon < remaining (machineOf g) (machineOf g .start)
   no-number h = omega (arith, right-missing (machineOf g) (machineOf g .start) number (store .good .right (machineOf g .start) number held) horizon h)
 
 -- Refusals 12 to 14 in order.
@@ -71,18 +66,18 @@ module _ (g : Graph) where
       ap judge (lines-are slots room)
       ∙ placeless-passes 12 (ltb slots (stateCount (machineOf g))) (laterLines g room) (le→nltb slots (stateCount (machineOf g)) h)
 
-  pub thirteen : (room : ℕ) → operationCount g < remaining (machineOf g) (machineOf g .start) → judge (laterLines g room) ≡ refused 13 0
+  pub thirteen : (room : ℕ) → machineOf g .horizon < remaining (machineOf g) (machineOf g .start) → judge (laterLines g room) ≡ refused 13 0
   unfolding laterLines
   thirteen room h =
-      placeless-fault 13 (ltb (operationCount g) (remaining (machineOf g) (machineOf g .start)))
-      (placeless 14 (ltb room (length (scheduleFile g))) ∷ []) (lt→ltb (operationCount g) (remaining (machineOf g) (machineOf g .start)) h)
+      placeless-fault 13 (ltb (machineOf g .horizon) (remaining (machineOf g) (machineOf g .start)))
+      (placeless 14 (ltb room (length (scheduleFile g))) ∷ []) (lt→ltb (machineOf g .horizon) (remaining (machineOf g) (machineOf g .start)) h)
 
-  module _ (room : ℕ) (found : remaining (machineOf g) (machineOf g .start) ≤ operationCount g) where
+  module _ (room : ℕ) (found : remaining (machineOf g) (machineOf g .start) ≤ machineOf g .horizon) where
     fourteen-left : judge (laterLines g room) ≡ judge (placeless 14 (ltb room (length (scheduleFile g))) ∷ [])
     unfolding laterLines
     fourteen-left =
-        placeless-passes 13 (ltb (operationCount g) (remaining (machineOf g) (machineOf g .start)))
-        (placeless 14 (ltb room (length (scheduleFile g))) ∷ []) (le→nltb (operationCount g) (remaining (machineOf g) (machineOf g .start)) found)
+        placeless-passes 13 (ltb (machineOf g .horizon) (remaining (machineOf g) (machineOf g .start)))
+        (placeless 14 (ltb room (length (scheduleFile g))) ∷ []) (le→nltb (machineOf g .horizon) (remaining (machineOf g) (machineOf g .start)) found)
 
     pub fourteen : room < length (scheduleFile g) → judge (laterLines g room) ≡ refused 14 0
     fourteen h = fourteen-left ∙ placeless-fault 14 (ltb room (length (scheduleFile g))) [] (lt→ltb room (length (scheduleFile g)) h)
@@ -122,35 +117,42 @@ module _ (g : Graph) where
       }
 
   -- the schedule's file
-  pub schedule-length : length (scheduleFile g) ≡ 8 + 8 * length (scheduleRows (machineOf g))
-  unfolding scheduleFile rowStart rowBytes maskBytes
-  schedule-length =
-      file-length g (remaining (machineOf g) (machineOf g .start)) (scheduleRows (machineOf g)) ∙ back (length (scheduleRows (machineOf g)))
-    where
-      back : (n : ℕ) → 8 + 8 * (suc n - 1) ≡ 8 + 8 * n
-      back n = omega arith
+  pub schedule-length : length (scheduleFile g) ≡ rowStart (g .edition) (suc (length (scheduleRows (machineOf g))))
+  unfolding scheduleFile
+  schedule-length = file-length g (remaining (machineOf g) (machineOf g .start)) (scheduleRows (machineOf g))
 
-  pub few-rows : Accepted g → remaining (machineOf g) (machineOf g .start) ≤ operationCount g → length (scheduleRows (machineOf g)) ≤ 384
+  -- there is room in a table for 16 rows of each cycle
+  pub cycles-room : Accepted g → (t : ℕ) → t ≤ machineOf g .horizon → 16 * t ≤ mostRows (g .edition)
+  unfolding mostRows
+  cycles-room a t h = omega (arith, few-operations (a .within))
+
+  pub few-rows : Accepted g → remaining (machineOf g) (machineOf g .start) ≤ machineOf g .horizon
+      → length (scheduleRows (machineOf g)) ≤ mostRows (g .edition)
   few-rows a h =
-      subst (λ (l : List (Row (machineOf g))). length l ≤ 384) (sym (rows-are g))
-      (le-trans (list-length (remaining (machineOf g) (machineOf g .start)) 16 (cycleRows g) (λ t k. cycle-rows g t (a .controls)))
-      (omega (arith, a .operations)))
+      subst (λ (l : List (Row (machineOf g))). length l ≤ mostRows (g .edition)) (sym (rows-are g))
+      (le-trans (list-length cycles 16 (cycleRows g) (λ t k. cycle-rows g t (few-controls (a .within))))
+      (subst (λ (k : ℕ). k ≤ mostRows (g .edition)) (mul-comm 16 cycles) (cycles-room a cycles h)))
+    where
+      cycles : ℕ
+      cycles = remaining (machineOf g) (machineOf g .start)
 
-  pub file-written : (cycles rows : ℕ) (t u v : List ℕ) → g .edition ≡ 1 → cycles ≡ remaining (machineOf g) (machineOf g .start)
-      → rows ≡ length (scheduleRows (machineOf g)) → u ≡ written t 0 (0x48 ∷ 0x54 ∷ 1 ∷ cycles ∷ (bytesOf 2 rows ++ bytesOf 2 8))
-      → v ≡ written u (8 + 8 * 0) (rowFiles g (scheduleRows (machineOf g))) → 8 ≤ length t → v ≡ scheduleFile g ++ drop (length (scheduleFile g)) t
-  unfolding written scheduleFile tableFile bytesOf
-  file-written cycles rows t u v one c r e d room =
-      written-then t u v 0 8 (0x48 ∷ 0x54 ∷ 1 ∷ cycles ∷ (bytesOf 2 rows ++ bytesOf 2 8)) files e d refl room
+  pub file-written : (edition cycles rows : ℕ) (t u v : List ℕ) → g .edition ≡ edition → cycles ≡ remaining (machineOf g) (machineOf g .start)
+      → rows ≡ length (scheduleRows (machineOf g)) → u ≡ written t 0 (headerFile edition cycles rows)
+      → v ≡ written u (rowStart (g .edition) 1) (rowFiles g (scheduleRows (machineOf g))) → rowStart (g .edition) 1 ≤ length t
+      → v ≡ scheduleFile g ++ drop (length (scheduleFile g)) t
+  unfolding written scheduleFile tableFile headerFile bytesOf
+  file-written edition cycles rows t u v one c r e d room =
+      written-then t u v 0 (rowStart (g .edition) 1) (headerFile edition cycles rows) files e d (row-first (g .edition))
+      (subst (λ (k : ℕ). k ≤ length t) (row-first (g .edition)) room)
       ∙ ap (λ (l : List ℕ). written t 0 l) same ∙ ap (λ (k : ℕ). scheduleFile g ++ drop k t) (zero-add (length (scheduleFile g)))
     where
       files : List ℕ
       files = rowFiles g (scheduleRows (machineOf g))
 
-      same : 0x48 ∷ 0x54 ∷ 1 ∷ cycles ∷ (bytesOf 2 rows ++ bytesOf 2 8) ++ files ≡ scheduleFile g
+      same : headerFile edition cycles rows ++ files ≡ scheduleFile g
       same =
-          ap (λ (k : ℕ). 0x48 ∷ 0x54 ∷ k ∷ cycles ∷ bytesOf 2 rows ++ bytesOf 2 8 ++ files) (sym one)
-          ∙ ap₂ (λ (a b : ℕ). 0x48 ∷ 0x54 ∷ g .edition ∷ a ∷ bytesOf 2 b ++ bytesOf 2 8 ++ files) c r
+          ap (λ (k : ℕ). headerFile k cycles rows ++ files) (sym one)
+          ∙ ap₂ (λ (a b : ℕ). headerFile (g .edition) a b ++ files) c r
 
 -- The promise for a file, by the reader's verdict.
 module _ (file slots table : List ℕ) where
@@ -189,69 +191,3 @@ module _ (file slots table : List ℕ) where
       verdict : scheduleVerdict file slots table ≡ judge (scheduleLines (content file) (length slots) (length table))
       verdict =
           unfold scheduleVerdict graphVerdict in judge-after (judge-taken (graphLines file) .0 e) (scheduleLines (content file) (length slots) (length table))
-
--- What the reader's answer says of the file.
-reading-verdict : (v : Verdict) (n k c a : ℕ) → reading v n k c a .verdict ≡ v
-unfolding reading
-reading-verdict taken n k c a = refl
-reading-verdict (refused x y) n k c a = refl
-
-pub read-refused : (file : List ℕ) (x y : ℕ) → valuesRead (RefusedRead x y) ≡ reader file → graphVerdict file ≡ refused x y
-unfolding reader valuesRead
-read-refused file x y e =
-    sym (reading-verdict (graphVerdict file) (operationsOf file) (classesOf file) (controlsOf file) (arcsOf file)) ∙ ap (λ (r : Reading). r .verdict) (sym e)
-
-pub record Counts (file : List ℕ) (n k c : ℕ) : Type 0 where
-  pub verdict : graphVerdict file ≡ taken
-  pub operations : n ≡ operationsOf file
-  pub classes : k ≡ classesOf file
-  pub controls : c ≡ controlsOf file
-
-pub read-taken : (file : List ℕ) (n k c a : ℕ) → valuesRead (Taken n k c a) ≡ reader file → Counts file n k c
-unfolding reader reading valuesRead
-read-taken file n k c a e =
-    let verdict : graphVerdict file ≡ taken =
-    sym (reading-verdict (graphVerdict file) (operationsOf file) (classesOf file) (controlsOf file) (arcsOf file)) ∙ ap (λ (r : Reading). r .verdict) (sym e) in
-    let all : valuesRead (Taken n k c a) ≡ reading taken (operationsOf file) (classesOf file) (controlsOf file) (arcsOf file) =
-    e ∙ ap (λ (v : Verdict). reading v (operationsOf file) (classesOf file) (controlsOf file) (arcsOf file)) verdict in
-    record {
-      verdict = verdict;
-      operations = ap (λ (r : Reading). r .operations) all;
-      classes = ap (λ (r : Reading). r .classes) all;
-      controls = ap (λ (r : Reading). r .controls) all;
-    }
-
-pub accepted-file : (file : List ℕ) → graphVerdict file ≡ taken → Accepted (content file)
-accepted-file file e =
-    let passed = graph-of file (judge-taken (graphLines file) .0 (unfold graphVerdict in e)) in
-    record {
-      taken = passed .1;
-      operations = operation-most file (passed .0);
-      classes = class-most file (passed .0);
-      controls = control-most file (passed .0);
-    }
-
--- the parts stand where the counts say, and are the graph's
-pub record Cut (file : List ℕ) (from middle last : ℕ) : Type 0 where
-  pub first-part : 16 ≤ from
-  pub second-part : from ≤ middle
-  pub third-part : middle ≤ last
-  pub fourth-part : last ≤ length file
-  pub graph : graphOf (take (from - 16) (drop 16 file)) (take (middle - from) (drop from file)) (take (last - middle) (drop middle file))
-      (take (length file - last) (drop last file)) ≡ content file
-
-pub cut-file : (file : List ℕ) (n k c : ℕ) → Counts file n k c → Cut file (16 + k) (16 + k + 3 * n) (16 + k + 3 * n + c)
-unfolding partsOf graphVerdict graphLines operationsStart controlsStart arcsStart operationBytes
-cut-file file n k c counts =
-    let passed = judge-taken (fileLines file) .1 (pass-append (fileLines file) (contentLines (content file)) .0 (judge-taken (graphLines file) .0 (counts .verdict)) .0) in
-    let whole = laid file passed in
-    let from : 16 + k ≡ operationsStart file = omega (arith, counts .classes) in
-    let middle : 16 + k + 3 * n ≡ controlsStart file = omega (arith, counts .classes, counts .operations) in
-    let last : 16 + k + 3 * n + c ≡ arcsStart file = omega (arith, counts .classes, counts .operations, counts .controls) in
-    record {
-      first-part = omega arith;
-      second-part = omega arith;
-      third-part = omega arith;
-      fourth-part = omega (arith, last, whole .arcs);
-      graph = cut file whole (16 + k) (16 + k + 3 * n) (16 + k + 3 * n + c) from middle last;
-    }

@@ -1,6 +1,6 @@
 -- What the scheduler's promise says: one outcome for each input; a success's table is accepted and has the fewest cycles, and
 -- its count is that of the reachable states; 13 is given exactly when no table is accepted. Assumes nothing.
-use Prim.Native.Nat.{ℕ, _+_, _*_, _≤_, _<_}
+use Prim.Native.Nat.{ℕ, suc, _≤_, _<_}
 use native.Mathlib.Omega.{arith}
 use mathlib.Core.Path.{_≡_, refl, sym, _∙_, ap, subst}
 use mathlib.Core.Logic.{_⊎_, ⊎-elim, _≢_}
@@ -15,15 +15,14 @@ use Rattle.machine.specs.Tables.{scheduleRows}
 use Rattle.machine.proofs.Truth.{or-left, or-right, contrary}
 use Rattle.machine.proofs.Sets.{le-or-lt}
 use Rattle.machine.proofs.Says.{denies-ltb}
-use Rattle.machine.proofs.Refusals.{Given, here, later, AllPass, and, judge-taken, judge-refused, judge-after, pass-append}
+use Rattle.machine.proofs.Refusals.{Given, here, later, AllPass, and, otherwise, judge-append, judge-taken, judge-refused, judge-after, pass-append}
 use Rattle.machine.proofs.Reach.{Counts, state-count}
 use Rattle.meaning.specs.Graph.{fileLines, contentLines, content}
 use Rattle.meaning.specs.Steps.{machineOf}
-use Rattle.meaning.specs.TableFile.{cyclesOf, scheduleFile}
+use Rattle.meaning.specs.TableFile.{rowStart, cyclesOf, scheduleFile}
 use Rattle.meaning.specs.Answers.{Answer, answer, isTaken, graphLines, graphVerdict, scheduleLines, scheduleVerdict, scheduler, tableAfter, checkVerdict}
 use Rattle.meaning.proofs.TableFile.{file-cycles}
 use Rattle.meaning.proofs.Demands.{lawful-in, schedule-shortest, thirteen-exactly}
-use Rattle.reader.proofs.Chain.{otherwise, judge-append}
 use Rattle.scheduler.specs.declared.Scheduled.{Scheduled}
 use Rattle.scheduler.specs.declared.Scheduled.the-variants.{Refused, Done}
 use Rattle.scheduler.specs.Promise.{valuesOf, Promised}
@@ -112,13 +111,13 @@ module _ (file slots table : List ℕ) (r : Scheduled) (slotsLast tableLast : Li
     unfolding valuesOf answer
     rows-are = ap (λ (v : Answer). v .rows) values-are
 
-    -- the first 8 + 8 * rows bytes of the buffer are the schedule's file
-    written-file : take (8 + 8 * rows) tableLast ≡ scheduleFile (content file)
+    -- the first bytes of the buffer, as many as a table of so many rows has, are the schedule's file
+    written-file : take (rowStart (content file .edition) (suc rows)) tableLast ≡ scheduleFile (content file)
     unfolding tableAfter isTaken
     written-file =
-        ap (take (8 + 8 * rows)) (p .writes ∙ ap (λ (v : Verdict). cond (isTaken v) (scheduleFile (content file) ++ drop (length (scheduleFile (content file))) table) table) verdict-taken)
-        ∙ take-at (scheduleFile (content file)) (drop (length (scheduleFile (content file))) table) (8 + 8 * rows)
-        (schedule-length (content file) ∙ ap (λ (k : ℕ). 8 + 8 * k) (sym rows-are))
+        ap (take (rowStart (content file .edition) (suc rows))) (p .writes ∙ ap (λ (v : Verdict). cond (isTaken v) (scheduleFile (content file) ++ drop (length (scheduleFile (content file))) table) table) verdict-taken)
+        ∙ take-at (scheduleFile (content file)) (drop (length (scheduleFile (content file))) table) (rowStart (content file .edition) (suc rows))
+        (schedule-length (content file) ∙ ap (λ (k : ℕ). rowStart (content file .edition) (suc k)) (sym rows-are))
 
     best : (checkVerdict file (scheduleFile (content file)) ≡ taken)
         × ((other : List ℕ) → checkVerdict file other ≡ taken → cyclesOf (scheduleFile (content file)) ≤ cyclesOf other)
@@ -131,10 +130,10 @@ module _ (file slots table : List ℕ) (r : Scheduled) (slotsLast tableLast : Li
         ∙ sym cycles-are
 
     -- The table written is accepted, and carries the number of cycles that was answered.
-    pub accepted : checkVerdict file (take (8 + 8 * rows) tableLast) ≡ taken
+    pub accepted : checkVerdict file (take (rowStart (content file .edition) (suc rows)) tableLast) ≡ taken
     accepted = subst (λ (t : List ℕ). checkVerdict file t ≡ taken) (sym written-file) (best .0)
 
-    pub cycles-written : cyclesOf (take (8 + 8 * rows) tableLast) ≡ cycles
+    pub cycles-written : cyclesOf (take (rowStart (content file .edition) (suc rows)) tableLast) ≡ cycles
     cycles-written = ap cyclesOf written-file ∙ file-cycles-are
 
     -- No accepted table has fewer cycles.

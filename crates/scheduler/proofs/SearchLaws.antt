@@ -16,12 +16,13 @@ use Rattle.machine.proofs.Reach.{more, distinct-length, distinct-all}
 use Rattle.machine.proofs.Search.{Right, complete-right, Good, good-all}
 use Rattle.meaning.specs.Graph.{Graph, controlCount}
 use Rattle.meaning.specs.Steps.{State, machineOf, same, complete, legal, after as next}
+use Rattle.meaning.proofs.Taken.{Accepted, few-controls}
 use Rattle.meaning.proofs.Instance.{undone, lawful}
 use Rattle.scheduler.specs.declared.slots.Found.{Found}
 use Rattle.scheduler.specs.declared.search.Settled.{Settled}
 use Rattle.scheduler.specs.declared.search.Settled.the-variants.{Full, Number}
 use Rattle.scheduler.specs.Slots.{Holds, Finds, Added}
-use Rattle.scheduler.specs.Search.{Accepted, Held, Store, Grown, Ready, Settles, SettledTo, StoredAs, Storable}
+use Rattle.scheduler.specs.Search.{Held, Store, Grown, Ready, Settles, SettledTo, StoredAs, Storable}
 use Rattle.scheduler.proofs.SlotLaws.{Listed, listed, cleared, cleared-holds}
 
 -- a state that is not held makes one more reachable state than slots are in use
@@ -64,8 +65,8 @@ module _ (g : Graph) (slots after : List ℕ) (used : ℕ) (s : State) (number :
         right = old-or-new (Right (machineOf g)) (a .ready .store .good .right) (a .right);
         reach = old-or-new (λ r n. Reachable (machineOf g) r) (a .ready .store .good .reach) (a .ready .reachable);
         closed = old-or-new
-            (λ r n. T (not (complete g (r .done) (r .values))) → (x : ℕ) → T (legal g (r .done) (r .values) x)
-            → (w : ℕ) → w < 2 ^ controlCount g → Held after (next g (r .done) (r .values) x w))
+            (λ r n. T (not (complete g r)) → (x : ℕ) → T (legal g r x)
+            → (w : ℕ) → w < 2 ^ controlCount g → Held after (next g r x w))
             (λ r n h c x t w k. still (a .ready .store .good .closed r n h c x t w k))
             (λ c x t w k. still (a .closed c x t w k));
       }
@@ -111,7 +112,7 @@ grown-none g slots used bound s = record { store = s; same-length = refl; kept =
 pub reachable-values : (g : Graph) → Accepted g → (s : State) → Reachable (machineOf g) s → s .values < 16
 reachable-values g a s begin = omega arith
 reachable-values g a s (step {s = r} q c x t w h) =
-    lt-of-lt-of-le (lawful g (a .taken) .word-next r x w) (pow-mono (a .controls))
+    lt-of-lt-of-le (lawful g (a .taken) .word-next r x w) (pow-mono (few-controls (a .within)))
 
 -- a state that is held already
 pub found-settles : (g : Graph) (slots : List ℕ) (used : ℕ) (s : State) (number : ℕ) → Store g slots used → Holds slots s number
@@ -120,13 +121,13 @@ found-settles g slots used s number store h = record { grown = grown-none g slot
 
 -- a complete state has the number 0
 pub complete-storable : (g : Graph) (slots : List ℕ) (used : ℕ) (s : State) → Ready g slots used s → Finds slots s Found.Nothing
-    → T (complete g (s .done) (s .values)) → Storable g slots used s 0
+    → T (complete g s) → Storable g slots used s 0
 complete-storable g slots used s r n c =
     record {
       ready = r;
       absent = n;
       right = complete-right (machineOf g) s c;
-      closed = λ u. absurd (contrary (complete g (s .done) (s .values)) c u);
+      closed = λ u. absurd (contrary (complete g s) c u);
     }
 
 -- what settling a state gives, from where its search began

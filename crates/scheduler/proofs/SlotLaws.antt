@@ -1,6 +1,6 @@
 -- Laws of the work slots: what a slot says, and what slots in order hold. Assumes nothing.
-use Prim.Native.Nat.{ℕ, zero, suc, _+_, _*_, _^_, _%_, _≤_, _<_, zero-le, suc-le-suc}
-use native.Mathlib.Nat.{not-suc-le-zero, le-refl, lt-irrefl, le-of-suc-le-suc}
+use Prim.Native.Nat.{ℕ, zero, suc, _+_, _-_, _*_, _^_, _/_, _%_, _≤_, _<_, zero-le, suc-le-suc}
+use native.Mathlib.Nat.{add-comm, mod-eq-of-lt, not-suc-le-zero, le-refl, lt-irrefl, le-of-suc-le-suc}
 use native.Mathlib.Omega.{arith}
 use mathlib.Core.Path.{_≡_, refl, sym, _∙_, ap, subst}
 use mathlib.Core.Logic.{_⊎_, inl, inr, ⊎-elim, _≢_}
@@ -9,6 +9,7 @@ use mathlib.Core.List.{List, [], _∷_, List·Memᴰ, List·Memᴰ·head, List·
 use lib.ListN.{length, getD, set, replicate, length-set}
 use lib.Seq.{getD-set-same, getD-set-other}
 use lib.Dec.{T, le→leb}
+use lib.Bits.{bitAnd, bitOr, and-mask, or-shifted-r}
 use Rattle.machine.specs.Machine.{holds}
 use Rattle.machine.proofs.Truth.{contrary, refuted, true-of, false-of, of-true}
 use Rattle.machine.proofs.Sets.{le-or-lt, trichotomy}
@@ -17,19 +18,37 @@ use Rattle.machine.proofs.Reach.{Distinct, none, more, holds-mem, mem-holds}
 use Rattle.meaning.specs.Graph.{Graph}
 use Rattle.meaning.specs.Steps.{State, machineOf}
 use Rattle.scheduler.specs.declared.slots.Found.{Found}
-use Rattle.scheduler.specs.Slots.{keyOf, slotOf, inUse, stateIn, numberIn, Holds, InOrder, Finds, Added}
+use Rattle.scheduler.specs.Slots.{valuesBit, numberBit, markBit, keyOf, slotOf, inUse, stateIn, numberIn, Holds, InOrder, Finds, Added}
 
 -- a state fits a slot
 pub record Fits (s : State) : Type 0 where
-  pub done : s .done < 2 ^ 40
-  pub values : s .values < 2 ^ 9
+  pub done : s .done < 2 ^ valuesBit
+  pub values : s .values < 2 ^ 4
+
+-- a field is put above all that stands below its first bit
+put-above : (low field k : ℕ) → low < 2 ^ k → field * 2 ^ k < 2 ^ 64 → bitOr low (field * 2 ^ k % 2 ^ 64) ≡ low + field * 2 ^ k
+put-above low field k h l = ap (bitOr low) (mod-eq-of-lt l) ∙ or-shifted-r field k low h ∙ add-comm (field * 2 ^ k) low
+
+-- the key and the slot, as shifts make them
+pub key-packed : (s : State) → Fits s → bitOr (s .done) (s .values * 2 ^ valuesBit % 2 ^ 64) ≡ keyOf s
+unfolding keyOf
+key-packed s f = put-above (s .done) (s .values) valuesBit (f .done) (omega (arith, f .values))
+
+pub slot-packed : (s : State) (key number : ℕ) → Fits s → number < 2 ^ 6 → key ≡ keyOf s
+    → bitOr (bitOr key (number * 2 ^ numberBit % 2 ^ 64)) (2 ^ markBit) ≡ slotOf s number
+unfolding slotOf keyOf
+slot-packed s key number f h e =
+    let key-small : key < 2 ^ numberBit = omega (arith, f .done, f .values) in
+    ap (λ (x : ℕ). bitOr x (2 ^ markBit)) (put-above key number numberBit key-small (omega arith))
+    ∙ put-above (key + number * 2 ^ numberBit) 1 markBit (omega arith) (omega arith)
+    ∙ omega arith
 
 state-ext : (r s : State) → r .done ≡ s .done → r .values ≡ s .values → r ≡ s
 state-ext r s d v = λ i. record { done = d i; values = v i }
 
 slot-used : (s : State) (number : ℕ) → T (inUse (slotOf s number))
 unfolding inUse slotOf
-slot-used s number = le→leb (2 ^ 55) (keyOf s + number * 2 ^ 49 + 2 ^ 55) (omega arith)
+slot-used s number = le→leb (2 ^ markBit) (keyOf s + number * 2 ^ numberBit + 2 ^ markBit) (omega arith)
 
 slot-state : (s : State) (number : ℕ) → Fits s → number < 2 ^ 6 → stateIn (slotOf s number) ≡ s
 unfolding stateIn slotOf keyOf
@@ -39,28 +58,35 @@ slot-number : (s : State) (number : ℕ) → Fits s → number < 2 ^ 6 → numbe
 unfolding numberIn slotOf keyOf
 slot-number s number f h = omega (arith, f .done, f .values)
 
--- the key of a slot says which state it holds
-key-state : (slot : ℕ) (s : State) → Fits s → slot % 2 ^ 49 ≡ keyOf s → stateIn slot ≡ s
-unfolding stateIn keyOf
-key-state slot s f e = state-ext (stateIn slot) s (omega (arith, f .done, f .values)) (omega (arith, f .done, f .values))
+-- the key of a slot, all bits below the number, says which state it holds
+abbrev pub keyIn : ℕ → ℕ
+keyIn slot = bitAnd slot (2 ^ numberBit - 1)
 
-state-key : (slot : ℕ) (s : State) → stateIn slot ≡ s → slot % 2 ^ 49 ≡ keyOf s
+key-state : (slot : ℕ) (s : State) → Fits s → keyIn slot ≡ keyOf s → stateIn slot ≡ s
 unfolding stateIn keyOf
-state-key slot s e = omega (arith, ap (λ (r : State). r .done) e, ap (λ (r : State). r .values) e)
+key-state slot s f e =
+    let low : slot % 2 ^ numberBit ≡ keyOf s = sym (and-mask slot numberBit) ∙ e in
+    state-ext (stateIn slot) s (omega (arith, f .done)) (omega (arith, f .done))
+
+state-key : (slot : ℕ) (s : State) → stateIn slot ≡ s → keyIn slot ≡ keyOf s
+unfolding stateIn keyOf
+state-key slot s e =
+    and-mask slot numberBit ∙ omega (arith, ap (λ (r : State). r .done) e, ap (λ (r : State). r .values) e)
 
 -- What a walk over the slots in use finds.
 module _ (slots : List ℕ) (used : ℕ) (order : InOrder slots used) (s : State) (fits : Fits s) where
-  pub found-here : (i : ℕ) → i < used → getD slots i 0 % 2 ^ 49 ≡ keyOf s → Holds slots s (numberIn (getD slots i 0))
+  pub found-here : (i : ℕ) → i < used → keyIn (getD slots i 0) ≡ keyOf s → Holds slots s (bitAnd (getD slots i 0 / 2 ^ numberBit) (2 ^ 6 - 1))
+  unfolding numberIn
   found-here i h e =
       record {
         place = i;
         within = omega (arith, order .within);
         used = order .front i h;
         state = key-state (getD slots i 0) s fits e;
-        numbered = refl;
+        numbered = sym (and-mask (getD slots i 0 / 2 ^ numberBit) 6);
       }
 
-  pub found-nowhere : ((i : ℕ) → i < used → getD slots i 0 % 2 ^ 49 ≡ keyOf s → ⊥) → Finds slots s Found.Nothing
+  pub found-nowhere : ((i : ℕ) → i < used → keyIn (getD slots i 0) ≡ keyOf s → ⊥) → Finds slots s Found.Nothing
   found-nowhere nowhere number h =
       ⊎-elim (λ (l : used ≤ h .place). contrary (inUse (getD slots (h .place) 0)) (h .used) (order .rest (h .place) l))
       (λ (l : h .place < used). nowhere (h .place) l (state-key (getD slots (h .place) 0) s (h .state))) (le-or-lt used (h .place))

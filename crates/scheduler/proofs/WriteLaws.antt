@@ -3,11 +3,16 @@ use Prim.Native.Nat.{ℕ, suc, _+_, _-_, _^_, _/_, _%_, _≤_, _<_}
 use native.Mathlib.Nat.{add-zero, mod-eq-of-lt}
 use native.Mathlib.Numerals.{add-one}
 use native.Mathlib.Omega.{arith}
-use mathlib.Core.Path.{_≡_, sym, _∙_, ap, ap₂}
+use mathlib.Core.Path.{_≡_, refl, sym, _∙_, ap, ap₂}
 use mathlib.Core.List.{List, [], _∷_, _++_, append-assoc}
 use lib.ListN.{length, take, drop, set, length-append, length-drop, take-append-drop}
 use lib.Seq.{take-at, drop-append-add, drop-drop, length-take-le, take-suc-set, drop-set-lt}
-use Rattle.meaning.specs.TableFile.{bytesOf}
+use Rattle.machine.specs.Tables.{Row}
+use Rattle.meaning.specs.Graph.{Graph}
+use Rattle.meaning.specs.Steps.{machineOf}
+use Rattle.meaning.specs.TableFile.{maskBytes, rowBytes, rowStart, bytesOf, headerFile, rowFile}
+use Rattle.meaning.proofs.Bytes.{bytes-length}
+use Rattle.meaning.proofs.TableFile.{row-first}
 use Rattle.scheduler.specs.Writing.{written}
 
 pub written-none : (t : List ℕ) (at : ℕ) → written t at [] ≡ t
@@ -76,7 +81,36 @@ pub written-then : (t u v : List ℕ) (at next : ℕ) (a b : List ℕ) → u ≡
 written-then t u v at next a b d e h k =
     e ∙ ap₂ (λ (x : List ℕ) (i : ℕ). written x i b) d h ∙ written-more t at a b k
 
--- a number below 256 is its byte
-pub byte-of : (x : ℕ) → x < 2 ^ 8 → bytesOf 1 x ≡ x ∷ []
-unfolding bytesOf
-byte-of x h = ap (λ (y : ℕ). y ∷ []) (mod-eq-of-lt h)
+-- A header, field by field: the buffer after the first write, the second, and so on.
+module _ (t first second third fourth fifth : List ℕ) (edition cycles rows : ℕ) (room : rowStart edition 1 ≤ length t) (known : edition < 2 ^ 8) (few : cycles < 2 ^ 8) where
+  pub header-written : first ≡ written t 0 (bytesOf 2 0x5448) → second ≡ written first 2 (bytesOf 1 edition) → third ≡ written second 3 (bytesOf 1 cycles)
+      → fourth ≡ written third 4 (bytesOf 2 rows) → fifth ≡ written fourth 6 (bytesOf 2 (rowStart edition 1)) → fifth ≡ written t 0 (headerFile edition cycles rows)
+  unfolding headerFile bytesOf
+  header-written one two three four five =
+      let long = row-first edition in
+      let marked = bytesOf 2 0x5448 ++ bytesOf 1 edition in
+      let counted = marked ++ bytesOf 1 cycles in
+      let to-second = written-then t first second 0 2 (bytesOf 2 0x5448) (bytesOf 1 edition) one two refl (omega arith) in
+      let to-third = written-then t second third 0 3 marked (bytesOf 1 cycles) to-second three refl (omega arith) in
+      let to-fourth = written-then t third fourth 0 4 counted (bytesOf 2 rows) to-third four refl (omega arith) in
+      written-then t fourth fifth 0 6 (counted ++ bytesOf 2 rows) (bytesOf 2 (rowStart edition 1)) to-fourth five refl (omega arith)
+      ∙ rw (row-first, mod-eq-of-lt known, mod-eq-of-lt few) refl
+
+-- A row, field by field.
+module _ (g : Graph) (r : Row (machineOf g)) (t first second third fourth : List ℕ) (at : ℕ) (room : at + rowBytes (g .edition) ≤ length t)
+    (early : r .cycle < 2 ^ 8) (few : r .state .values < 2 ^ 8) where
+  abbrev size : ℕ
+  size = maskBytes (g .edition)
+
+  pub row-written : first ≡ written t at (bytesOf 1 (r .cycle)) → second ≡ written first (at + 1) (bytesOf 1 (r .state .values))
+      → third ≡ written second (at + 2) (bytesOf size (r .state .done)) → fourth ≡ written third (at + 2 + size) (bytesOf size (r .step))
+      → fourth ≡ written t at (rowFile g r)
+  unfolding rowFile rowBytes bytesOf
+  row-written one two three four =
+      let start = bytesOf 1 (r .cycle) ++ bytesOf 1 (r .state .values) in
+      let done = bytesOf size (r .state .done) in
+      let long : length (start ++ done) ≡ suc (suc size) = ap (λ (k : ℕ). suc (suc k)) (bytes-length size (r .state .done)) in
+      let to-second = written-then t first second at (at + 1) (bytesOf 1 (r .cycle)) (bytesOf 1 (r .state .values)) one two refl (omega arith) in
+      let to-third = written-then t second third at (at + 2) start done to-second three refl (omega arith) in
+      written-then t third fourth at (at + 2 + size) (start ++ done) (bytesOf size (r .step)) to-third four (omega arith) (omega arith)
+      ∙ rw (mod-eq-of-lt early, mod-eq-of-lt few) refl

@@ -1,5 +1,4 @@
 pub mod Slots
-pub mod Moves
 pub mod Search
 pub mod Rows
 pub mod Writing

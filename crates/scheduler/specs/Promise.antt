@@ -12,9 +12,9 @@ use Rattle.meaning.specs.Graph.{Graph}
 use Rattle.meaning.specs.Steps.{machineOf}
 use Rattle.meaning.specs.TableFile.{scheduleFile}
 use Rattle.meaning.specs.Answers.{Answer, answer, isTaken, scheduleLines, scheduler, slotsAfter, tableAfter}
-use Rattle.steps.specs.Masks.{classesOf}
+use Rattle.meaning.proofs.Taken.{Accepted}
 use Rattle.scheduler.specs.Slots.{Holds}
-use Rattle.scheduler.specs.Search.{Accepted, Store}
+use Rattle.scheduler.specs.Search.{Store}
 use Rattle.scheduler.specs.declared.Scheduled.{Scheduled}
 use Rattle.scheduler.specs.declared.Scheduled.the-variants.{Refused, Done}
 
@@ -40,9 +40,8 @@ laterLines g room =
     ∷ placeless 14 (ltb room (length (scheduleFile g))) ∷ []
 
 -- what laying the table asks: the reachable states are held, the start with this number
-pub record LayAsks (g : Graph) (classes slots : List ℕ) (used number : ℕ) : Type 0 where
+pub record LayAsks (g : Graph) (slots : List ℕ) (used number : ℕ) : Type 0 where
   pub accepted : Accepted g
-  pub classed : classes ≡ classesOf g
   pub store : Store g slots used
   pub held : Holds slots (machineOf g .start) number
 

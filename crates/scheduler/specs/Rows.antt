@@ -8,11 +8,15 @@ use lib.Dec.{T, eqb}
 use Rattle.machine.specs.Sets.{listBelow}
 use Rattle.machine.specs.Machine.{remaining, best, run}
 use Rattle.machine.specs.Tables.{Row, scheduleRows}
-use Rattle.meaning.specs.Graph.{Graph, operationCount, controlCount}
-use Rattle.meaning.specs.Steps.{State, machineOf, complete}
-use Rattle.meaning.specs.TableFile.{rowFiles}
-use Rattle.steps.specs.Masks.{classesOf}
-use Rattle.scheduler.specs.Search.{Accepted, Held, Store}
+use Rattle.machine.proofs.Search.{missing}
+use Rattle.meaning.specs.Graph.{Graph, controlCount}
+use Rattle.meaning.specs.Steps.{State, machineOf, complete, legal}
+use Rattle.meaning.specs.TableFile.{mostRows, rowStart, rowFiles}
+use Rattle.meaning.proofs.Taken.{Accepted}
+use Rattle.steps.specs.declared.State.{State as Fields}
+use Rattle.steps.specs.States.{stateOf}
+use Rattle.scheduler.specs.declared.rows.Progress.{Progress}
+use Rattle.scheduler.specs.Search.{Held, Store}
 use Rattle.scheduler.specs.Writing.{written}
 
 -- what choosing a step asks: a held state that is unfinished and has a remaining number
@@ -20,34 +24,39 @@ pub record Choosing (g : Graph) (slots : List ℕ) (used : ℕ) (s : State) : Ty
   pub accepted : Accepted g
   pub store : Store g slots used
   pub held : Held slots s
-  pub unfinished : T (not (complete g (s .done) (s .values)))
-  pub numbered : remaining (machineOf g) s ≤ operationCount g
+  pub unfinished : T (not (complete g s))
+  pub numbered : remaining (machineOf g) s ≤ machineOf g .horizon
+
+-- what attaining asks: a step that may be chosen, and a bound that is a number
+pub record Attaining (g : Graph) (slots : List ℕ) (used : ℕ) (s : State) (step bound : ℕ) : Type 0 where
+  pub choosing : Choosing g slots used s
+  pub lawful : T (legal g s step)
+  pub numbered : bound < missing
 
 -- what planning asks: the start is held, and so every reachable state, and has a remaining number
 pub record Planning (g : Graph) (slots : List ℕ) (used : ℕ) : Type 0 where
   pub accepted : Accepted g
   pub store : Store g slots used
   pub start : Held slots (machineOf g .start)
-  pub numbered : remaining (machineOf g) (machineOf g .start) ≤ operationCount g
+  pub numbered : remaining (machineOf g) (machineOf g .start) ≤ machineOf g .horizon
 
 -- the state that the schedule meets after t cycles on the word w
 unfoldable pub met : Graph → ℕ → ℕ → State
 met g t w = run (machineOf g) (λ u r. best (machineOf g) r) t w
 
 -- the state of word w, where the states of all words lie side by side
-abbrev pub stateOf : List ℕ → List ℕ → ℕ → State
-stateOf done values w = record { done = getD done w 0; values = getD values w 0 }
+abbrev pub stateAt : List Fields → ℕ → State
+stateAt states w = stateOf (getD states w (record { done = 0; values = 0 }))
 
 -- the states of the words from `from` up to `to` are those after t cycles
-pub record Meets (g : Graph) (t from to : ℕ) (done values : List ℕ) : Type 0 where
-  pub done-size : length done ≡ 16
-  pub values-size : length values ≡ 16
-  pub states : (w : ℕ) → from ≤ w → w < to → stateOf done values w ≡ met g t w
+pub record Meets (g : Graph) (t from to : ℕ) (states : List Fields) : Type 0 where
+  pub size : length states ≡ 16
+  pub at : (w : ℕ) → from ≤ w → w < to → stateAt states w ≡ met g t w
 
 -- the row of word w in the cycle after t cycles, if its state is unfinished and it is the word of the values there
 unfoldable pub rowOf : (g : Graph) → ℕ → ℕ → List (Row (machineOf g))
 rowOf g t w =
-    cond (eqb (met g t w .values) w && not (complete g (met g t w .done) (met g t w .values)))
+    cond (eqb (met g t w .values) w && not (complete g (met g t w)))
     (record { cycle = suc t; state = met g t w; step = best (machineOf g) (met g t w) } ∷ []) []
 
 -- the rows of that cycle
@@ -57,32 +66,31 @@ cycleRows g t = listBelow (2 ^ controlCount g) (rowOf g t)
 -- rows counted, and if there is writing, written behind those before
 pub record Laid (g : Graph) (writing : Bool) (before after : List ℕ) (rows more : ℕ) (l : List (Row (machineOf g))) : Type 0 where
   pub count : more ≡ rows + length l
-  pub table : after ≡ cond writing (written before (8 + 8 * rows) (rowFiles g l)) before
+  pub table : after ≡ cond writing (written before (rowStart (g .edition) (suc rows)) (rowFiles g l)) before
 
 -- the buffer has room for so many rows, if there is writing
-abbrev pub Room : Bool → List ℕ → ℕ → Type 0
-Room writing table rows = T writing → 8 + 8 * rows ≤ length table
+abbrev pub Room : Bool → ℕ → List ℕ → ℕ → Type 0
+Room writing edition table rows = T writing → rowStart edition (suc rows) ≤ length table
 
--- what going one cycle on asks: the states of all words after `past` cycles, and room for the rows of the cycle
-pub record CycleAsks (g : Graph) (classes slots : List ℕ) (used past : ℕ) (done values table : List ℕ) (writing : Bool) (rows : ℕ) : Type 0 where
+-- what going one cycle on asks: the states of all words after the cycles past, and room for the rows of the cycle
+pub record CycleAsks (g : Graph) (slots : List ℕ) (used : ℕ) (p : Progress) (table : List ℕ) (writing : Bool) : Type 0 where
   pub planning : Planning g slots used
-  pub classed : classes ≡ classesOf g
-  pub meets : Meets g past 0 (2 ^ controlCount g) done values
-  pub early : past < 24
-  pub few : rows ≤ 16 * past
-  pub room : Room writing table (rows + length (cycleRows g past))
+  pub meets : Meets g (p .past) 0 (2 ^ controlCount g) (p .states)
+  pub few : p .rows ≤ 16 * p .past
+  pub early : 16 * suc (p .past) ≤ mostRows (g .edition)
+  pub room : Room writing (g .edition) table (p .rows + length (cycleRows g (p .past)))
 
 -- and what it gives
-pub record CycleGives (g : Graph) (past : ℕ) (writing : Bool) (before after : List ℕ) (rows more : ℕ) (done values : List ℕ) : Type 0 where
-  pub laid : Laid g writing before after rows more (cycleRows g past)
-  pub meets : Meets g (suc past) 0 (2 ^ controlCount g) done values
+pub record CycleGives (g : Graph) (p : Progress) (writing : Bool) (before after : List ℕ) (r : Progress) : Type 0 where
+  pub past : r .past ≡ suc (p .past)
+  pub laid : Laid g writing before after (p .rows) (r .rows) (cycleRows g (p .past))
+  pub meets : Meets g (suc (p .past)) 0 (2 ^ controlCount g) (r .states)
 
 -- what planning all cycles asks
-pub record PlanAsks (g : Graph) (classes slots : List ℕ) (used cycles : ℕ) (table : List ℕ) (writing : Bool) : Type 0 where
+pub record PlanAsks (g : Graph) (slots : List ℕ) (used cycles : ℕ) (table : List ℕ) (writing : Bool) : Type 0 where
   pub planning : Planning g slots used
-  pub classed : classes ≡ classesOf g
   pub number : cycles ≡ remaining (machineOf g) (machineOf g .start)
-  pub room : Room writing table (length (scheduleRows (machineOf g)))
+  pub room : Room writing (g .edition) table (length (scheduleRows (machineOf g)))
 
 -- and what it gives
 abbrev pub PlanGives : Graph → Bool → List ℕ → List ℕ → ℕ → Type 0

@@ -8,21 +8,27 @@ use lib.ListN.{length}
 use lib.Dec.{T}
 use Rattle.machine.specs.Machine.{Reachable, stateCount}
 use Rattle.machine.proofs.Search.{Right, Good}
-use Rattle.meaning.specs.Graph.{Graph, operationCount, classCount, controlCount}
+use Rattle.meaning.specs.Graph.{Graph, controlCount}
 use Rattle.meaning.specs.Steps.{State, machineOf, legal, complete, after}
-use Rattle.meaning.proofs.Taken.{Taken}
+use Rattle.meaning.proofs.Taken.{Within, Accepted}
 use Rattle.meaning.proofs.Instance.{undone}
+use Rattle.steps.specs.declared.Moves.{Moves}
+use Rattle.steps.specs.Moves.{movesIn}
 use Rattle.scheduler.specs.Slots.{InOrder, Holds, Finds, Added}
 use Rattle.scheduler.specs.declared.slots.Found.{Found}
 use Rattle.scheduler.specs.declared.search.Settled.{Settled}
 use Rattle.scheduler.specs.declared.search.Settled.the-variants.{Full, Number}
 
--- a graph that passes refusals 1 to 11
-pub record Accepted (g : Graph) : Type 0 where
-  pub taken : Taken g
-  pub operations : operationCount g ≤ 24
-  pub classes : classCount g ≤ 8
-  pub controls : controlCount g ≤ 4
+-- The step y is the least legal one from x on in the state s; where there is none, it is the number of steps.
+pub record StepFrom (g : Graph) (s : State) (x y : ℕ) : Type 0 where
+  pub from : x ≤ y
+  pub within : y ≤ machineOf g .steps
+  pub lawful : y < machineOf g .steps → T (legal g s y)
+  pub between : (z : ℕ) → x ≤ z → z < y → T (not (legal g s z))
+
+-- y is that for whichever graph and state the moves are
+abbrev pub NextStep : Moves → ℕ → ℕ → Type 0
+NextStep moves x y = (g : Graph) (s : State) → Within g → moves ≡ movesIn g s → x ≤ machineOf g .steps → StepFrom g s x y
 
 -- some number is held with the state s
 abbrev pub Held : List ℕ → State → Type 0
@@ -62,8 +68,8 @@ pub record Storable (g : Graph) (slots : List ℕ) (used : ℕ) (s : State) (num
   pub ready : Ready g slots used s
   pub absent : Finds slots s Found.Nothing
   pub right : Right (machineOf g) s number
-  pub closed : T (not (complete g (s .done) (s .values))) → (x : ℕ) → T (legal g (s .done) (s .values) x)
-      → (w : ℕ) → w < 2 ^ controlCount g → Held slots (after g (s .done) (s .values) x w)
+  pub closed : T (not (complete g s)) → (x : ℕ) → T (legal g s x)
+      → (w : ℕ) → w < 2 ^ controlCount g → Held slots (after g s x w)
 
 -- what storing a state with its number gives: all slots were in use, or it is added
 abbrev pub StoredAs : List ℕ → List ℕ → ℕ → State → ℕ → Settled → Type 0

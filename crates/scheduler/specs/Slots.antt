@@ -1,5 +1,5 @@
 -- How a state lies in a work slot, and what slots hold.
-use Prim.Native.Nat.{ℕ, _+_, _*_, _^_, _/_, _%_, _≤_, _<_}
+use Prim.Native.Nat.{ℕ, _+_, _-_, _*_, _^_, _/_, _%_, _≤_, _<_}
 use mathlib.Core.Path.{_≡_}
 use mathlib.Core.Bool.{Bool, not}
 use mathlib.Core.List.{List}
@@ -10,22 +10,38 @@ use Rattle.meaning.specs.Steps.{State}
 use Rattle.scheduler.specs.declared.slots.Found.{Found}
 use Rattle.scheduler.specs.declared.slots.Found.the-variants.{Number, Nothing}
 
--- A slot in use: from bit 0 the operations done, from bit 40 the values, from bit 49 the number, and bit 55, which is 1.
--- A slot that is not in use is 0.
+-- A slot in use, by its bits: 0 to 39 the operations done, 40 to 43 the values, 44 to 49 the cycle, which a later request
+-- brings and which is 0 today, 50 to 55 the number, and bit 56, which is 1. A slot that is not in use is 0.
+
+-- where the values, the number and the mark stand
+abbrev pub valuesBit : ℕ
+valuesBit = 40
+
+abbrev pub numberBit : ℕ
+numberBit = 50
+
+abbrev pub markBit : ℕ
+markBit = 56
+
+-- the key of a state: all that stands below the number
 unfoldable pub keyOf : State → ℕ
-keyOf s = s .done + s .values * 2 ^ 40
+keyOf s = s .done + s .values * 2 ^ valuesBit
 
+-- the slot of a state with its number
 unfoldable pub slotOf : State → ℕ → ℕ
-slotOf s number = keyOf s + number * 2 ^ 49 + 2 ^ 55
+slotOf s number = keyOf s + number * 2 ^ numberBit + 2 ^ markBit
 
+-- the slot has the mark
 unfoldable pub inUse : ℕ → Bool
-inUse slot = leb (2 ^ 55) slot
+inUse slot = leb (2 ^ markBit) slot
 
+-- the state that a slot holds; the cycle's bits, which are 0, are read with the values
 unfoldable pub stateIn : ℕ → State
-stateIn slot = record { done = slot % 2 ^ 40; values = slot / 2 ^ 40 % 2 ^ 9 }
+stateIn slot = record { done = slot % 2 ^ valuesBit; values = slot / 2 ^ valuesBit % 2 ^ (numberBit - valuesBit) }
 
+-- the number that a slot holds
 unfoldable pub numberIn : ℕ → ℕ
-numberIn slot = slot / 2 ^ 49 % 2 ^ 6
+numberIn slot = slot / 2 ^ numberBit % 2 ^ (markBit - numberBit)
 
 -- the slots hold the state s with a number
 pub record Holds (slots : List ℕ) (s : State) (number : ℕ) : Type 0 where

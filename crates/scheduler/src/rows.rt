@@ -1,92 +1,70 @@
 // The schedule's rows: the states of all words side by side, cycle by cycle, with the chosen step of each.
 use crate::search::MISSING;
-use crate::search::word_above;
+use crate::search::next_step;
 use crate::slots::Found;
 use crate::slots::find;
-use crate::table::HEADER_BYTES;
-use crate::table::ROW_BYTES;
 use crate::table::put_row;
+use masks::Set;
+use steps::State;
 ghost use mathlib.Core.Path.{_≡_};
 ghost use mathlib.Core.Bool.{cond};
-ghost use mathlib.Core.List.{List, [], _∷_};
-ghost use Prim.Native.Nat.{ℕ, _+_, _^_, _≤_, _<_};
-ghost use lib.ListN.{length};
-ghost use lib.Dec.{T, eqb};
+ghost use mathlib.Core.List.{[], _∷_};
+ghost use Prim.Native.Nat.{_+_, _≤_, _<_, _^_};
+ghost use lib.Dec.{eqb};
 ghost use Rattle.machine.specs.Machine.{leads, finish, best};
-ghost use Rattle.meaning.specs.Graph.{Graph};
-ghost use Rattle.meaning.specs.Steps.{machineOf, legal};
-ghost use Rattle.steps.specs.Parts.{graphOf};
-ghost use Rattle.steps.specs.Masks.{classesOf};
+ghost use Rattle.meaning.specs.Graph.{Graph, content};
+ghost use Rattle.meaning.specs.Steps.{machineOf};
+ghost use Rattle.meaning.specs.TableFile.{mostRows};
+ghost use Rattle.steps.specs.States.{stateOf};
 ghost use Rattle.scheduler.specs.Slots.{InOrder, Holds};
 ghost use Rattle.scheduler.specs.Search.{Held};
-ghost use Rattle.scheduler.specs.Rows.{Choosing, Laid, Room, CycleAsks, CycleGives, PlanAsks, PlanGives};
+ghost use Rattle.scheduler.specs.Rows.{Choosing, Attaining, Laid, Room, CycleAsks, CycleGives, PlanAsks, PlanGives};
 
 // The number that is held with a state.
-fn number_of(slots: &[u64], used: usize, done: u32, values: u32) -> u32
+fn number_of(slots: &[u64], used: usize, s: State) -> u32
     requires { ⌜ InOrder (now slots) used ⌝ }
-    requires { ⌜ values < 16 ⌝ }
-    ensures { λ r. ⌜ (Held (now (slots .entry)) (record { done = done; values = values }) → Holds (now (slots .entry)) (record { done = done; values = values }) r) ⌝ }
+    requires { ⌜ s .values < 16 ⌝ }
+    ensures { λ r. ⌜ (Held (now (slots .entry)) (stateOf s) → Holds (now (slots .entry)) (stateOf s) r) ⌝ }
 {
-    match find(slots, used, done, values) {
+    match find(slots, used, s) {
         Found::Number(number) => number,
         Found::Nothing => MISSING,
     }
 }
 
 // The step leads, however its controls fall, to states that are held with numbers up to the bound.
-fn attains(
-    operations: &[u8],
-    controls: &[u8],
-    slots: &[u64],
-    used: usize,
-    done: u32,
-    values: u32,
-    step: u32,
-    bound: u32,
-) -> bool
-    requires { ⌜ InOrder (now slots) used ⌝ }
-    requires { ⌜ length (now controls) ≤ 4 ⌝ }
-    ensures { λ r. ⌜ ((limits arcs : List ℕ) → let g = graphOf limits (now (operations .entry)) (now (controls .entry)) arcs in
-        Choosing g (now (slots .entry)) used (record { done = done; values = values }) → T (legal g done values step) → bound < 63
-        → r ≡ leads (machineOf g) (finish (machineOf g) bound) (record { done = done; values = values }) step) ⌝ }
+fn attains(graph: &[u8], slots: &[u64], used: usize, s: State, step: Set, bound: u32) -> bool
+    requires { ⌜ Attaining (content (now graph)) (now slots) used (stateOf s) step bound ⌝ }
+    ensures { λ r. ⌜ (let M = machineOf (content (now (graph .entry))) in r ≡ leads M (finish M bound) (stateOf s) step) ⌝ }
 {
-    let forks = steps::begun(controls, done, step);
-    let after = steps::done_after(operations, done, step);
+    let fork = steps::fork_of(graph, s, step);
+    let begun = fork.begun;
     let mut word = 0;
-    while word <= forks {
-        let fallen = steps::values_after(controls, done, values, step, word);
-        if bound < number_of(slots, used, after, fallen) {
-            return false;
+    while word <= begun {
+        if steps::falls(fork, word) {
+            if bound < number_of(slots, used, steps::fallen(fork, word)) {
+                return false;
+            }
         }
-        word = word_above(forks, word);
+        word += 1;
     }
     true
 }
 
 // The smallest step that attains the remaining number of an unfinished state.
-fn chosen(
-    limits: &[u8],
-    operations: &[u8],
-    controls: &[u8],
-    arcs: &[u8],
-    classes: &[u32; 8],
-    slots: &[u64],
-    used: usize,
-    done: u32,
-    values: u32,
-) -> u32
-    requires { ⌜ now classes ≡ classesOf (graphOf (now limits) (now operations) (now controls) (now arcs)) ⌝ }
-    requires { ⌜ Choosing (graphOf (now limits) (now operations) (now controls) (now arcs)) (now slots) used (record { done = done; values = values }) ⌝ }
-    ensures { λ r. ⌜ r ≡ best (machineOf (graphOf (now (limits .entry)) (now (operations .entry)) (now (controls .entry)) (now (arcs .entry)))) (record { done = done; values = values }) ⌝ }
+fn chosen(graph: &[u8], slots: &[u64], used: usize, s: State) -> Set
+    requires { ⌜ Choosing (content (now graph)) (now slots) used (stateOf s) ⌝ }
+    ensures { λ r. ⌜ r ≡ best (machineOf (content (now (graph .entry)))) (stateOf s) ⌝ }
 {
-    let constraints = steps::constraints_of(operations, controls, arcs, done, values);
-    let bound = number_of(slots, used, done, values) - 1;
-    let mut step = steps::step_above(limits, classes, constraints, 0);
-    while step != 0 {
-        if attains(operations, controls, slots, used, done, values, step, bound) {
+    let moves = steps::moves_in(graph, s);
+    let steps = moves.steps;
+    let bound = number_of(slots, used, s) - 1;
+    let mut step = next_step(moves, 0);
+    while step < steps {
+        if attains(graph, slots, used, s, step, bound) {
             return step;
         }
-        step = steps::step_above(limits, classes, constraints, step);
+        step = next_step(moves, step + 1);
     }
     step
 }
@@ -95,118 +73,88 @@ fn chosen(
 fn place(
     table: &mut [u8],
     writing: bool,
+    edition: u32,
     rows: usize,
     word: u32,
     cycle: u32,
-    done: u32,
-    values: u32,
-    step: u32,
+    s: State,
+    step: Set,
 ) -> usize
-    requires { ⌜ (values ≡ word → Room writing (now table) (rows + 1)) ⌝ }
-    requires { ⌜ (rows < 384) × (cycle < 2 ^ 8) × (values < 2 ^ 8) ⌝ }
-    ensures { λ r. ⌜ ((g : Graph) → Laid g writing (now (table .entry)) (now (table .exit)) rows r (cond (eqb values word) (record { cycle = cycle; state = record { done = done; values = values }; step = step } ∷ []) [])) ⌝ }
+    requires { ⌜ (s .values ≡ word → Room writing edition (now table) (rows + 1)) ⌝ }
+    requires { ⌜ (rows < mostRows edition) × (cycle < 2 ^ 8) × (s .values < 2 ^ 8) ⌝ }
+    ensures { λ r. ⌜ ((g : Graph) → g .edition ≡ edition → Laid g writing (now (table .entry)) (now (table .exit)) rows r (cond (eqb (s .values) word) (record { cycle = cycle; state = stateOf s; step = step } ∷ []) [])) ⌝ }
 {
-    if values != word {
+    if s.values != word {
         return rows;
     }
     if !writing {
         return rows + 1;
     }
-    put_row(
-        table,
-        HEADER_BYTES + ROW_BYTES * rows,
-        cycle,
-        values,
-        done,
-        step,
-    );
+    put_row(table, edition, rows, cycle, s, step);
     rows + 1
+}
+
+// How far a plan has come: the cycles past, the rows so far, and the states of all words.
+pub(crate) struct Progress {
+    pub past: u32,
+    pub rows: usize,
+    pub states: [State; 16],
 }
 
 // Goes one cycle on in the states of all words, and counts the rows of that cycle, and writes them if asked to.
 fn cycle(
-    limits: &[u8],
-    operations: &[u8],
-    controls: &[u8],
-    arcs: &[u8],
-    classes: &[u32; 8],
+    graph: &[u8],
     slots: &[u64],
     used: usize,
-    past: u32,
-    done: &mut [u32; 16],
-    values: &mut [u32; 16],
+    p: Progress,
     table: &mut [u8],
     writing: bool,
-    rows: usize,
-) -> usize
-    requires { ⌜ CycleAsks (graphOf (now limits) (now operations) (now controls) (now arcs)) (now classes) (now slots) used past (now done) (now values) (now table) writing rows ⌝ }
-    ensures { λ r. ⌜ CycleGives (graphOf (now (limits .entry)) (now (operations .entry)) (now (controls .entry)) (now (arcs .entry))) past writing (now (table .entry)) (now (table .exit)) rows r (now (done .exit)) (now (values .exit)) ⌝ }
+) -> Progress
+    requires { ⌜ CycleAsks (content (now graph)) (now slots) used p (now table) writing ⌝ }
+    ensures { λ r. ⌜ CycleGives (content (now (graph .entry))) p writing (now (table .entry)) (now (table .exit)) r ⌝ }
 {
-    let mut rows = rows;
+    let edition = parts::edition(graph);
+    let words = steps::word_count(graph) as usize;
+    let next = p.past + 1;
+    let mut rows = p.rows;
+    let mut states = p.states;
     let mut word: usize = 0;
-    while word < 1 << controls.len() {
-        let d = done[word];
-        let v = values[word];
-        if steps::complete(operations, controls, d, v) {
-            word += 1;
-            continue;
+    while word < words {
+        let s = states[word];
+        if !steps::complete(graph, s) {
+            let step = chosen(graph, slots, used, s);
+            rows = place(table, writing, edition, rows, word as u32, next, s, step);
+            states[word] = steps::fallen(steps::fork_of(graph, s, step), word as u32);
         }
-        let step = chosen(
-            limits,
-            operations,
-            controls,
-            arcs,
-            classes,
-            slots,
-            used,
-            d,
-            v,
-        );
-        rows = place(table, writing, rows, word as u32, past + 1, d, v, step);
-        done[word] = steps::done_after(operations, d, step);
-        values[word] = steps::values_after(controls, d, v, step, word as u32);
         word += 1;
     }
-    rows
+    Progress {
+        past: next,
+        rows,
+        states,
+    }
 }
 
 // Counts the rows of a schedule of so many cycles, and writes them if asked to.
 pub(crate) fn plan(
-    limits: &[u8],
-    operations: &[u8],
-    controls: &[u8],
-    arcs: &[u8],
-    classes: &[u32; 8],
+    graph: &[u8],
     slots: &[u64],
     used: usize,
     cycles: u32,
     table: &mut [u8],
     writing: bool,
 ) -> usize
-    requires { ⌜ PlanAsks (graphOf (now limits) (now operations) (now controls) (now arcs)) (now classes) (now slots) used cycles (now table) writing ⌝ }
-    ensures { λ r. ⌜ PlanGives (graphOf (now (limits .entry)) (now (operations .entry)) (now (controls .entry)) (now (arcs .entry))) writing (now (table .entry)) (now (table .exit)) r ⌝ }
+    requires { ⌜ PlanAsks (content (now graph)) (now slots) used cycles (now table) writing ⌝ }
+    ensures { λ r. ⌜ PlanGives (content (now (graph .entry))) writing (now (table .entry)) (now (table .exit)) r ⌝ }
 {
-    let mut done = [0u32; 16];
-    let mut values = [0u32; 16];
-    let mut rows = 0;
-    let mut past = 0;
-    while past < cycles {
-        rows = cycle(
-            limits,
-            operations,
-            controls,
-            arcs,
-            classes,
-            slots,
-            used,
-            past,
-            &mut done,
-            &mut values,
-            table,
-            writing,
-            rows,
-        );
-        past += 1;
+    let start = steps::start();
+    let mut p = Progress {
+        past: 0,
+        rows: 0,
+        states: [start; 16],
+    };
+    while p.past < cycles {
+        p = cycle(graph, slots, used, p, table, writing);
     }
-    rows
+    p.rows
 }

@@ -1,7 +1,9 @@
 // The work slots: how a state lies in one, and the look-up of a state with its number. Nothing else looks into them.
+use steps::State;
 ghost use mathlib.Core.Path.{_≡_};
 ghost use Prim.Native.Nat.{_<_};
 ghost use lib.ListN.{length, replicate};
+ghost use Rattle.steps.specs.States.{stateOf};
 ghost use Rattle.scheduler.specs.Slots.{keyOf, slotOf, InOrder, Finds, Added};
 
 // What a look-up finds: the number that is held with the state, or that the state is not held.
@@ -10,27 +12,30 @@ pub(crate) enum Found {
     Nothing,
 }
 
-// A slot: from bit 0 the operations done, from bit 40 the values, from bit 49 the number, and bit 55, which is 1.
-const VALUES: u64 = 0x100_0000_0000;
+// Where the values and the number stand in a slot; the operations done stand from bit 0 on.
+const VALUES: u32 = 40;
 
-const NUMBER: u64 = 0x2_0000_0000_0000;
+const NUMBER: u32 = 50;
 
-const IN_USE: u64 = 0x80_0000_0000_0000;
+// The bits below the number, which say the state, and the mark of a slot in use.
+const KEY: u64 = (1 << NUMBER) - 1;
+
+const IN_USE: u64 = 1 << 56;
 
 // The part of a slot that says which state it holds.
-fn key(done: u32, values: u32) -> u64
-    requires { ⌜ values < 16 ⌝ }
-    ensures { λ r. ⌜ r ≡ keyOf (record { done = done; values = values }) ⌝ }
+fn key(s: State) -> u64
+    requires { ⌜ s .values < 16 ⌝ }
+    ensures { λ r. ⌜ r ≡ keyOf (stateOf s) ⌝ }
 {
-    done as u64 + values as u64 * VALUES
+    s.done as u64 | (s.values as u64) << VALUES
 }
 
 // The slot of a state with its number.
-fn pack(done: u32, values: u32, number: u32) -> u64
-    requires { ⌜ (values < 16) × (number < 64) ⌝ }
-    ensures { λ r. ⌜ r ≡ slotOf (record { done = done; values = values }) number ⌝ }
+fn pack(s: State, number: u32) -> u64
+    requires { ⌜ (s .values < 16) × (number < 64) ⌝ }
+    ensures { λ r. ⌜ r ≡ slotOf (stateOf s) number ⌝ }
 {
-    key(done, values) + number as u64 * NUMBER + IN_USE
+    key(s) | (number as u64) << NUMBER | IN_USE
 }
 
 // Sets all slots to 0.
@@ -45,17 +50,17 @@ pub(crate) fn clear(slots: &mut [u64])
 }
 
 // Looks a state up, by a walk over the slots in use.
-pub(crate) fn find(slots: &[u64], used: usize, done: u32, values: u32) -> Found
+pub(crate) fn find(slots: &[u64], used: usize, s: State) -> Found
     requires { ⌜ InOrder (now slots) used ⌝ }
-    requires { ⌜ values < 16 ⌝ }
-    ensures { λ r. ⌜ Finds (now (slots .entry)) (record { done = done; values = values }) r ⌝ }
+    requires { ⌜ s .values < 16 ⌝ }
+    ensures { λ r. ⌜ Finds (now (slots .entry)) (stateOf s) r ⌝ }
 {
-    let key = key(done, values);
+    let key = key(s);
     let mut i = 0;
     while i < used {
         let slot = slots[i];
-        if slot % NUMBER == key {
-            return Found::Number((slot / NUMBER % 64) as u32);
+        if slot & KEY == key {
+            return Found::Number((slot >> NUMBER & 63) as u32);
         }
         i += 1;
     }
@@ -63,12 +68,12 @@ pub(crate) fn find(slots: &[u64], used: usize, done: u32, values: u32) -> Found
 }
 
 // Adds a state that is not held, with its number, to slots that are not all in use.
-pub(crate) fn insert(slots: &mut [u64], used: usize, done: u32, values: u32, number: u32)
+pub(crate) fn insert(slots: &mut [u64], used: usize, s: State, number: u32)
     requires { ⌜ InOrder (now slots) used ⌝ }
     requires { ⌜ used < length (now slots) ⌝ }
-    requires { ⌜ (values < 16) × (number < 64) ⌝ }
-    requires { ⌜ Finds (now slots) (record { done = done; values = values }) Found.Nothing ⌝ }
-    ensures { λ _. ⌜ Added (now (slots .entry)) (now (slots .exit)) used (record { done = done; values = values }) number ⌝ }
+    requires { ⌜ (s .values < 16) × (number < 64) ⌝ }
+    requires { ⌜ Finds (now slots) (stateOf s) Found.Nothing ⌝ }
+    ensures { λ _. ⌜ Added (now (slots .entry)) (now (slots .exit)) used (stateOf s) number ⌝ }
 {
-    slots[used] = pack(done, values, number);
+    slots[used] = pack(s, number);
 }

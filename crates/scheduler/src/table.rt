@@ -1,16 +1,13 @@
-// The table file: numbers, the header and rows, written into the lent buffer.
+// The table file: numbers, the header and rows, written into the lent buffer. What an edition fixes is asked of `parts`.
+use masks::Set;
+use steps::State;
 ghost use mathlib.Core.Path.{_≡_};
-ghost use mathlib.Core.List.{_∷_, _++_};
-ghost use Prim.Native.Nat.{_+_, _<_, _≤_, _^_};
+ghost use Prim.Native.Nat.{suc, _+_, _<_, _≤_, _^_};
 ghost use lib.ListN.{length};
-ghost use Rattle.meaning.specs.TableFile.{bytesOf};
+ghost use Rattle.meaning.specs.Graph.{Graph};
+ghost use Rattle.meaning.specs.TableFile.{mostRows, rowStart, bytesOf, headerFile, rowFile};
+ghost use Rattle.steps.specs.States.{stateOf};
 ghost use Rattle.scheduler.specs.Writing.{written};
-
-pub(crate) const HEADER_BYTES: usize = 8;
-
-pub(crate) const ROW_BYTES: usize = 8;
-
-const MASK_BYTES: usize = 3;
 
 // Writes a number at `at`, in `size` bytes, low byte first.
 fn put(table: &mut [u8], at: usize, size: usize, number: u32)
@@ -26,27 +23,39 @@ fn put(table: &mut [u8], at: usize, size: usize, number: u32)
     }
 }
 
-// Writes the eight bytes of a header.
-pub(crate) fn put_header(table: &mut [u8], cycles: u32, rows: u32)
-    requires { ⌜ 8 ≤ length (now table) ⌝ }
-    requires { ⌜ cycles < 2 ^ 8 ⌝ }
-    ensures { λ _. ⌜ now (table .exit) ≡ written (now (table .entry)) 0 (0x48 ∷ 0x54 ∷ 1 ∷ cycles ∷ (bytesOf 2 rows ++ bytesOf 2 8)) ⌝ }
+// Writes the header.
+pub(crate) fn put_header(table: &mut [u8], edition: u32, cycles: u32, rows: u32)
+    requires { ⌜ rowStart edition 1 ≤ length (now table) ⌝ }
+    requires { ⌜ (edition < 2 ^ 8) × (cycles < 2 ^ 8) ⌝ }
+    ensures { λ _. ⌜ now (table .exit) ≡ written (now (table .entry)) 0 (headerFile edition cycles rows) ⌝ }
 {
     put(table, 0, 2, 0x5448);
-    put(table, 2, 1, 1);
+    put(table, 2, 1, edition);
     put(table, 3, 1, cycles);
     put(table, 4, 2, rows);
-    put(table, 6, 2, HEADER_BYTES as u32);
+    put(table, 6, 2, parts::rows_start(edition) as u32);
 }
 
-// Writes the eight bytes of a row at `at`.
-pub(crate) fn put_row(table: &mut [u8], at: usize, cycle: u32, values: u32, done: u32, step: u32)
-    requires { ⌜ at + 8 ≤ length (now table) ⌝ }
-    requires { ⌜ (cycle < 2 ^ 8) × (values < 2 ^ 8) ⌝ }
-    ensures { λ _. ⌜ now (table .exit) ≡ written (now (table .entry)) at (cycle ∷ values ∷ (bytesOf 3 done ++ bytesOf 3 step)) ⌝ }
+// Where the row behind `rows` others stands. Behind the last row this is the table's length.
+pub(crate) fn row_start(edition: u32, rows: usize) -> usize
+    requires { ⌜ rows ≤ mostRows edition ⌝ }
+    ensures { λ r. ⌜ r ≡ rowStart edition (suc rows) ⌝ }
 {
+    parts::rows_start(edition) + parts::row_bytes(edition) * rows
+}
+
+// Writes a row behind `rows` others.
+pub(crate) fn put_row(table: &mut [u8], edition: u32, rows: usize, cycle: u32, s: State, step: Set)
+    requires { ⌜ rowStart edition (suc (suc rows)) ≤ length (now table) ⌝ }
+    requires { ⌜ rows ≤ mostRows edition ⌝ }
+    requires { ⌜ (cycle < 2 ^ 8) × (s .values < 2 ^ 8) ⌝ }
+    ensures { λ _. ⌜ ((g : Graph) → g .edition ≡ edition → now (table .exit) ≡ written (now (table .entry)) (rowStart edition (suc rows))
+        (rowFile g (record { cycle = cycle; state = stateOf s; step = step }))) ⌝ }
+{
+    let at = row_start(edition, rows);
+    let size = parts::mask_bytes(edition);
     put(table, at, 1, cycle);
-    put(table, at + 1, 1, values);
-    put(table, at + 2, MASK_BYTES, done);
-    put(table, at + 2 + MASK_BYTES, MASK_BYTES, step);
+    put(table, at + 1, 1, s.values);
+    put(table, at + 2, size, s.done);
+    put(table, at + 2 + size, size, step);
 }

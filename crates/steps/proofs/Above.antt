@@ -1,22 +1,21 @@
--- The least number above x at which a test holds, by raising x at one bit. Assumes nothing.
+-- The least number from x on at which a test holds: x, or x raised at one bit. Assumes nothing.
 use Prim.Native.Nat.{ℕ, zero, suc, _+_, _-_, _*_, _^_, _/_, _%_, _≤_, _<_}
-use native.Mathlib.Nat.{div-one, div-eq-of-lt, mod-lt, add-mul, one-mul, le-refl, le-of-lt, lt-trans, lt-suc-self, zero-lt-suc, lt-of-le-of-lt, lt-of-lt-of-le}
+use native.Mathlib.Nat.{div-one, div-eq-of-lt, mod-lt, add-mul, one-mul, le-refl, le-trans, le-of-lt, lt-irrefl, lt-trans, lt-suc-self, zero-lt-suc, lt-of-le-of-lt, lt-of-lt-of-le}
 use native.Mathlib.Numerals.{add-one}
 use native.Mathlib.Omega.{arith}
 use mathlib.Core.Path.{_≡_, refl, sym, _∙_, ap, subst}
-use mathlib.Core.Logic.{_⊎_, inl, inr, ⊎-elim}
-use mathlib.Core.Bool.{Bool, true, false, cond, not, _&&_, and-false}
+use mathlib.Core.Logic.{_⊎_, ⊎-elim}
+use mathlib.Core.Bool.{Bool, true, false, not, _&&_, and-false}
 use lib.Arith.{lt-of-le-ne}
 use lib.Bits.{bitAnd, and-le-l}
-use lib.Count.{trailingZeros}
-use lib.Dec.{T, eqb, ltb, eqb→eq, ltb→lt, lt→ltb}
+use lib.Dec.{T, eqb, leb, eqb→eq, leb→le, le→leb}
 use lib.Pow.{pow-pos, pow-lt, split, high, shr-shr, shr-mono}
-use borrow.Author.Tests.{eq-eqb, lt-ltb, le-ltb}
+use borrow.Author.Tests.{eq-eqb}
 use Rattle.machine.specs.Sets.{has, anyBelow, firstBelow}
 use Rattle.machine.proofs.Truth.{and-left, and-right, both, not-and, and-not, not-not-elim, decided, contrary, refuted, of-true, of-false}
-use Rattle.machine.proofs.Sets.{First, le-or-lt, trichotomy, none-any, any-failed, first-none, first-some, first-unique, has-zero, member-below}
-use Rattle.masks.proofs.Bits.{has-and, has-opposite, has-power, one-bit, lowest}
-use Rattle.steps.specs.Masks.{raised, nextAbove}
+use Rattle.machine.proofs.Sets.{First, le-or-lt, trichotomy, any-of, none-any, any-failed, first-none, first-some, first-le, first-below, first-unique, first-same, has-zero, member, member-below}
+use Rattle.masks.proofs.Bits.{has-and, has-opposite, has-power, one-bit}
+use Rattle.steps.specs.Moves.{leastFrom, raised}
 
 halved : (x n : ℕ) → x / 2 ^ suc n ≡ x / 2 ^ n / 2
 halved x n = sym (shr-shr x n 1 ∙ ap (λ (k : ℕ). x / 2 ^ k) (add-one n))
@@ -90,72 +89,88 @@ raised-below n x y i low r h =
         total : suc i + (r .bit - suc i) ≡ r .bit
         total = omega arith
 
--- What the least number above x says. It is 0 exactly where there is none.
+-- What the least number above x at which a test holds says.
 pub record Next (m : ℕ) (f : ℕ → Bool) (x y : ℕ) : Type 0 where
   pub above : x < y
   pub below : y < m
   pub holds : T (f y)
   pub none : (z : ℕ) → x < z → z < y → T (not (f z))
 
-module _ (m : ℕ) (f : ℕ → Bool) (x : ℕ) where
+-- The test holds nowhere above x and below m.
+abbrev pub NoneAbove : ℕ → (ℕ → Bool) → ℕ → Type 0
+NoneAbove m f x = (z : ℕ) → x < z → z < m → T (not (f z))
+
+-- What the least number from x on at which a test holds says; it is b where there is none.
+pub record Least (b : ℕ) (f : ℕ → Bool) (x y : ℕ) : Type 0 where
+  pub from : x ≤ y
+  pub within : y ≤ b
+  pub holds : y < b → T (f y)
+  pub none : (z : ℕ) → x ≤ z → z < y → T (not (f z))
+
+module _ (b : ℕ) (f : ℕ → Bool) (x : ℕ) where
   abbrev later : ℕ → Bool
-  later y = ltb x y && f y
+  later y = leb x y && f y
 
-  next-some : (y : ℕ) → Next m f x y → nextAbove m f x ≡ y
-  unfolding nextAbove
-  next-some y r = ap (λ (k : ℕ). cond (ltb k m) k 0) first ∙ ap (λ (b : Bool). cond b y 0) (lt-ltb y m (r .below))
+  -- no later number passes below y
+  least-below : (y : ℕ) → ((z : ℕ) → x ≤ z → z < y → T (not (f z))) → (z : ℕ) → z < y → T (not (later z))
+  least-below y none z h = and-not (leb x z) (f z) (λ t. none z (leb→le x z t) h)
+
+  least-unique : (y : ℕ) → y < b → Least b f x y → y ≡ leastFrom b f x
+  unfolding leastFrom
+  least-unique y h r =
+      sym (first-unique b later y (record {
+        below = h;
+        holds = both (leb x y) (f y) (le→leb x y (r .from)) (r .holds h);
+        least = least-below y (r .none);
+      }))
+
+  pub from-here : T (f x) → x < b → x ≡ leastFrom b f x
+  from-here t h =
+      least-unique x h
+      (record { from = le-refl x; within = le-of-lt h; holds = λ k. t; none = λ z k l. absurd (lt-irrefl x (lt-of-le-of-lt k l)) })
+
+  -- from x on is x or above it
+  from-above : T (not (f x)) → (y : ℕ) → ((z : ℕ) → x < z → z < y → T (not (f z))) → (z : ℕ) → x ≤ z → z < y → T (not (f z))
+  from-above t y none z h k =
+      ⊎-elim (λ (e : x ≡ z). subst (λ (i : ℕ). T (not (f i))) e t)
+      (⊎-elim (λ (l : x < z). none z l k) (λ (l : z < x). absurd (lt-irrefl x (lt-of-le-of-lt h l)))) (trichotomy x z)
+
+  pub from-next : (m y : ℕ) → T (not (f x)) → Next m f x y → y < b → y ≡ leastFrom b f x
+  from-next m y t r h =
+      least-unique y h
+      (record { from = le-of-lt (r .above); within = le-of-lt h; holds = λ k. r .holds; none = from-above t y (r .none) })
+
+  pub from-none : T (not (f x)) → NoneAbove b f x → b ≡ leastFrom b f x
+  unfolding leastFrom
+  from-none t none = sym (first-none b later (none-any b later (least-below b (from-above t b none))))
+
+  pub least-from : x ≤ b → Least b f x (leastFrom b f x)
+  unfolding leastFrom
+  least-from h =
+      record {
+        from = ⊎-elim (λ (l : b ≤ firstBelow b later). le-trans h l)
+            (λ (l : firstBelow b later < b). leb→le x (firstBelow b later)
+            (and-left (leb x (firstBelow b later)) (f (firstBelow b later)) (first-below b later l .holds))) (le-or-lt b (firstBelow b later));
+        within = first-le b later;
+        holds = λ l. and-right (leb x (firstBelow b later)) (f (firstBelow b later)) (first-below b later l .holds);
+        none = λ z k l. not-and (leb x z) (f z) (earlier z l) (le→leb x z k);
+      }
     where
-      first : firstBelow m later ≡ y
-      first =
-          first-unique m later y (record {
-            below = r .below;
-            holds = both (ltb x y) (f y) (lt→ltb x y (r .above)) (r .holds);
-            least = λ z h. and-not (ltb x z) (f z) (λ t. r .none z (ltb→lt x z t) h);
-          })
+      earlier : (z : ℕ) → z < firstBelow b later → T (not (later z))
+      earlier z l =
+          ⊎-elim (λ (t : T (anyBelow b later)). first-some b later t .least z l)
+          (λ (t : T (not (anyBelow b later))). any-failed b later t z (lt-of-lt-of-le l (first-le b later))) (decided (anyBelow b later))
 
-  next-none : ((z : ℕ) → x < z → z < m → T (not (f z))) → nextAbove m f x ≡ 0
-  unfolding nextAbove
-  next-none none = ap (λ (k : ℕ). cond (ltb k m) k 0) last ∙ ap (λ (b : Bool). cond b m 0) (le-ltb m m (le-refl m))
-    where
-      last : firstBelow m later ≡ m
-      last = first-none m later (none-any m later (λ z h. and-not (ltb x z) (f z) (λ t. none z (ltb→lt x z t) h)))
+-- the same least number for two tests that agree below the bound
+pub least-same : (b : ℕ) (f g : ℕ → Bool) (x : ℕ) → ((y : ℕ) → y < b → f y ≡ g y) → leastFrom b f x ≡ leastFrom b g x
+unfolding leastFrom
+least-same b f g x e = first-same b (λ y. leb x y && f y) (λ y. leb x y && g y) (λ y h. ap (λ (t : Bool). leb x y && t) (e y h))
 
-  pub next-cases : Next m f x (nextAbove m f x) ⊎ (((z : ℕ) → x < z → z < m → T (not (f z))) × (nextAbove m f x ≡ 0))
-  next-cases =
-      ⊎-elim (λ (t : T (anyBelow m later)). inl (some t)) (λ (t : T (not (anyBelow m later))). inr (no t, next-none (no t)))
-      (decided (anyBelow m later))
-    where
-      no : T (not (anyBelow m later)) → (z : ℕ) → x < z → z < m → T (not (f z))
-      no t z l u = not-and (ltb x z) (f z) (any-failed m later t z u) (lt→ltb x z l)
-
-      some : T (anyBelow m later) → Next m f x (nextAbove m f x)
-      some t = subst (Next m f x) (sym (next-some (firstBelow m later) found)) found
-        where
-          r : First m later (firstBelow m later)
-          r = first-some m later t
-
-          found : Next m f x (firstBelow m later)
-          found =
-              record {
-                above = ltb→lt x (firstBelow m later) (and-left (ltb x (firstBelow m later)) (f (firstBelow m later)) (r .holds));
-                below = r .below;
-                holds = and-right (ltb x (firstBelow m later)) (f (firstBelow m later)) (r .holds);
-                none = λ z l u. not-and (ltb x z) (f z) (r .least z u) (lt→ltb x z l);
-              }
-
--- the same least number for two tests that agree below the higher bound
-pub next-same : (k m : ℕ) (f g : ℕ → Bool) (x : ℕ) → m ≤ k → ((y : ℕ) → y < k → f y ≡ g y) → ((y : ℕ) → T (g y) → y < m)
-    → nextAbove k f x ≡ nextAbove m g x
-next-same k m f g x h e low =
-    ⊎-elim
-    (λ (r : Next m g x (nextAbove m g x)). next-some k f x (nextAbove m g x) (record {
-      above = r .above;
-      below = lt-of-lt-of-le (r .below) h;
-      holds = subst T (sym (e (nextAbove m g x) (lt-of-lt-of-le (r .below) h))) (r .holds);
-      none = λ z l u. subst (λ (b : Bool). T (not b)) (sym (e z (lt-trans u (lt-of-lt-of-le (r .below) h)))) (r .none z l u);
-    }))
-    (λ (r : ((z : ℕ) → x < z → z < m → T (not (g z))) × (nextAbove m g x ≡ 0)). next-none k f x (λ z l u.
-    refuted (f z) (λ t. let s = subst T (e z u) t in contrary (g z) s (r .0 z l (low z s)))) ∙ sym (r .1)) (next-cases m g x)
+-- the lowest member of a set that has some
+pub lowest-member : (n m : ℕ) → m < 2 ^ n → 0 < m → (j : ℕ) → j ≡ firstBelow n (has m) → First n (has m) j
+lowest-member n m h k j e =
+    let p = member n m h k in
+    subst (First n (has m)) (sym e) (first-some n (has m) (any-of n (has m) (p .0) (p .1) (p .2)))
 
 -- The search so far: the bits of `free` are still to be tried, and x has none of them; raised at any other bit that it has
 -- not, x fails.
@@ -181,36 +196,31 @@ module _ (n : ℕ) (f : ℕ → Bool) (low x : ℕ) where
       left : (i : ℕ) → i < n → has (bitAnd ready (2 ^ n - 1 - x)) i ≡ (has ready i && not (has x i))
       left i l = has-and ready (2 ^ n - 1 - x) i ∙ ap (λ (t : Bool). has ready i && t) (has-opposite n x i k l)
 
-  -- A turn tries the lowest and leaves the others.
-  module _ (free : ℕ) (small : free < 2 ^ n) (some : 0 < free) where
-    abbrev tried-bit : ℕ
-    tried-bit = trailingZeros n free
-
+  -- A turn tries the lowest, j, and leaves the others.
+  module _ (free j : ℕ) (small : free < 2 ^ n) (some : 0 < free) (lowest : j ≡ firstBelow n (has free)) where
     abbrev others : ℕ
-    others = 2 ^ n - 1 - 1 * 2 ^ tried-bit % 2 ^ n
+    others = 2 ^ n - 1 - 1 * 2 ^ j % 2 ^ n
 
-    found : First n (has free) tried-bit
-    found = lowest n free small some
+    found : First n (has free) j
+    found = lowest-member n free small some j lowest
 
-    left : (i : ℕ) → i < n → has (bitAnd free others) i ≡ (has free i && not (eqb tried-bit i))
+    left : (i : ℕ) → i < n → has (bitAnd free others) i ≡ (has free i && not (eqb j i))
     left i l =
         has-and free others i
-        ∙ ap (λ (t : Bool). has free i && t) (ap (λ (b : ℕ). has (2 ^ n - 1 - b) i) (one-bit n tried-bit (found .below))
-        ∙ has-opposite n (2 ^ tried-bit) i (pow-lt (found .below)) l ∙ ap not (has-power tried-bit i))
+        ∙ ap (λ (t : Bool). has free i && t) (ap (λ (b : ℕ). has (2 ^ n - 1 - b) i) (one-bit n j (found .below))
+        ∙ has-opposite n (2 ^ j) i (pow-lt (found .below)) l ∙ ap not (has-power j i))
 
     pub search-less : bitAnd free others < free
     search-less =
         lt-of-le-ne (and-le-l free others)
-        (λ e. contrary (has (bitAnd free others) tried-bit) (subst (λ (m : ℕ). T (has m tried-bit)) (sym e) (found .holds)) gone)
+        (λ e. contrary (has (bitAnd free others) j) (subst (λ (m : ℕ). T (has m j)) (sym e) (found .holds)) gone)
       where
-        gone : T (not (has (bitAnd free others) tried-bit))
+        gone : T (not (has (bitAnd free others) j))
         gone =
-            of-false (left tried-bit (found .below) ∙ ap (λ (t : Bool). has free tried-bit && not t)
-            (eq-eqb tried-bit tried-bit refl)
-            ∙ and-false (has free tried-bit))
+            of-false (left j (found .below) ∙ ap (λ (t : Bool). has free j && not t) (eq-eqb j j refl) ∙ and-false (has free j))
 
     -- `next` is x raised there, and `passed` is what the test says of it
-    pub search-turn : (next : ℕ) (passed : Bool) → next ≡ raised x tried-bit low → passed ≡ f next → passed ≡ false
+    pub search-turn : (next : ℕ) (passed : Bool) → next ≡ raised x j low → passed ≡ f next → passed ≡ false
         → Searched n f low x free → Searched n f low x (bitAnd free others)
     search-turn next passed at said failed s =
         record {
@@ -222,8 +232,8 @@ module _ (n : ℕ) (f : ℕ → Bool) (low x : ℕ) where
         again : (i : ℕ) → i < n → T (not (has (bitAnd free others) i)) → T (has free i) → T (not (f (raised x i low)))
         again i l v w =
             subst (λ (m : ℕ). T (not (f (raised x m low))))
-            (eqb→eq tried-bit i (not-not-elim (eqb tried-bit i)
-            (not-and (has free i) (not (eqb tried-bit i)) (subst (λ (b : Bool). T (not b)) (left i l) v) w)))
+            (eqb→eq j i (not-not-elim (eqb j i)
+            (not-and (has free i) (not (eqb j i)) (subst (λ (b : Bool). T (not b)) (left i l) v) w)))
             (subst (λ (m : ℕ). T (not (f m))) at (of-false (sym said ∙ failed)))
 
 -- A test that keeps holding where the members below one of its members come down to those of low.
@@ -246,20 +256,20 @@ module _ (n : ℕ) (f : ℕ → Bool) (low : ℕ)
   part : (x y : ℕ) → x < y → y < 2 ^ n → Parted n x y
   part x y h k = parted n x y (div-eq-of-lt (lt-trans h k) ∙ sym (div-eq-of-lt k)) h
 
-  none-above : (x : ℕ) → ((j : ℕ) → j < n → T (not (has x j)) → T (not (f (raised x j low)))) → nextAbove (2 ^ n) f x ≡ 0
-  none-above x none =
-      next-none (2 ^ n) f x (λ z h k. refuted (f z) (λ t. let r = part x z h k in
-      contrary (f (raised x (r .bit) low)) (reached x z r k t .0) (none (r .bit) (r .below) (spared x z r))))
+  none-above : (x : ℕ) → ((j : ℕ) → j < n → T (not (has x j)) → T (not (f (raised x j low)))) → NoneAbove (2 ^ n) f x
+  none-above x none z h k =
+      refuted (f z) (λ t. let r = part x z h k in
+      contrary (f (raised x (r .bit) low)) (reached x z r k t .0) (none (r .bit) (r .below) (spared x z r)))
 
   found-above : (x j : ℕ) → T (not (has x j)) → T (f (raised x j low)) → raised x j low < 2 ^ n
-      → ((i : ℕ) → i < j → T (not (has x i)) → T (not (f (raised x i low)))) → nextAbove (2 ^ n) f x ≡ raised x j low
+      → ((i : ℕ) → i < j → T (not (has x i)) → T (not (f (raised x i low)))) → Next (2 ^ n) f x (raised x j low)
   found-above x j s t b least =
-      next-some (2 ^ n) f x (raised x j low) (record {
+      record {
         above = raised-above x j low (even x j s);
         below = b;
         holds = t;
         none = λ z h k. refuted (f z) (λ u. earlier z (part x z h (lt-trans k b)) k (lt-trans k b) u);
-      })
+      }
     where
       earlier : (z : ℕ) (r : Parted n x z) → z < raised x j low → z < 2 ^ n → T (f z) → ⊥
       earlier z r k l u =
@@ -269,14 +279,14 @@ module _ (n : ℕ) (f : ℕ → Bool) (low : ℕ)
           (λ (h : j < r .bit). omega (arith, raised-below n x z j low r h))) (trichotomy (r .bit) j)
 
   -- the search ends with nothing left to try, or at the lowest bit that passes
-  pub search-end : (x free : ℕ) → Searched n f low x free → free ≡ 0 → nextAbove (2 ^ n) f x ≡ 0
+  pub search-end : (x free : ℕ) → Searched n f low x free → free ≡ 0 → NoneAbove (2 ^ n) f x
   search-end x free s e =
       none-above x (λ j h t. s .tried j h t (of-false (ap (λ (k : ℕ). has k j) e ∙ has-zero j)))
 
-  pub search-found : (x free next : ℕ) (passed : Bool) → Searched n f low x free → 0 < free
-      → next ≡ raised x (trailingZeros n free) low → passed ≡ f next → passed ≡ true → next < 2 ^ n → next ≡ nextAbove (2 ^ n) f x
-  search-found x free next passed s k at said holds below =
-      let r = lowest n free (s .small) k in
-      let j = trailingZeros n free in
-      at ∙ sym (found-above x j (s .spare j (r .holds)) (subst (λ (m : ℕ). T (f m)) at (of-true (sym said ∙ holds)))
+  pub search-found : (x free j next : ℕ) (passed : Bool) → Searched n f low x free → 0 < free → j ≡ firstBelow n (has free)
+      → next ≡ raised x j low → passed ≡ f next → passed ≡ true → next < 2 ^ n → Next (2 ^ n) f x next
+  search-found x free j next passed s k first at said holds below =
+      let r = lowest-member n free (s .small) k j first in
+      subst (Next (2 ^ n) f x) (sym at)
+      (found-above x j (s .spare j (r .holds)) (subst (λ (m : ℕ). T (f m)) at (of-true (sym said ∙ holds)))
       (subst (λ (m : ℕ). m < 2 ^ n) at below) (λ i h u. s .tried i (lt-trans h (r .below)) u (r .least i h)))

@@ -1,6 +1,7 @@
 -- Next states by masks. Assumes nothing.
 use Prim.Native.Nat.{ℕ, _-_, _^_, _≤_, _<_}
 use native.Mathlib.Nat.{lt-of-le-of-lt}
+use native.Mathlib.Omega.{arith}
 use mathlib.Core.Path.{_≡_, refl, sym, _∙_, ap, ap₂, subst}
 use mathlib.Core.Logic.{⊎-elim}
 use mathlib.Core.Bool.{Bool, true, false, cond, not, _&&_, _||_, and-true, and-false, or-false}
@@ -8,22 +9,31 @@ use lib.Bits.{bitAnd, bitOr, and-le-l, or-lt}
 use lib.Dec.{T, ltb, ltb→lt}
 use borrow.Author.Tests.{lt-ltb}
 use Rattle.machine.specs.Sets.{has, maskBelow}
-use Rattle.machine.proofs.Truth.{and-left}
-use Rattle.machine.proofs.Sets.{le-or-lt, has-high, has-mask, mask-lt, mask-same, member-below, set-below}
+use Rattle.machine.proofs.Truth.{and-left, and-right, and-not, not-not-intro}
+use Rattle.machine.proofs.Sets.{le-or-lt, any-failed, none-any, has-high, has-mask, mask-lt, mask-same, set-ext, member-below, set-below}
 use Rattle.masks.proofs.Bits.{has-and, has-or, has-opposite, is-mask, cut-mask}
 use Rattle.meaning.specs.Graph.{Graph, operationCount, controlCount, producer}
-use Rattle.meaning.specs.Steps.{resolved, after}
-use Rattle.steps.specs.Masks.{produced, begun}
+use Rattle.meaning.specs.Steps.{State, resolved, after}
+use Rattle.meaning.proofs.Taken.{Within, few-controls}
+use Rattle.steps.specs.Moves.{produced}
+use Rattle.steps.specs.declared.Fork.{Fork}
+use Rattle.steps.specs.Forks.{wordCount, begun, forkOf, falls, fallen}
 
 -- `low` is the set of the operations, as far as a mask reaches
-pub done-mask : (g : Graph) (done values step word low : ℕ) → done < 2 ^ 32 → step < 2 ^ 32
-    → low ≡ maskBelow 32 (λ j. ltb j (operationCount g)) → bitAnd (bitOr done step) low ≡ after g done values step word .done
+pub done-mask : (g : Graph) (s : State) (step word low : ℕ) → s .done < 2 ^ 32 → step < 2 ^ 32
+    → low ≡ maskBelow 32 (λ j. ltb j (operationCount g)) → bitAnd (bitOr (s .done) step) low ≡ after g s step word .done
 unfolding after
-done-mask g done values step word low h k e =
-    cut-mask 32 (operationCount g) (bitOr done step) low (or-lt 32 done step h k) e
-    ∙ mask-same (operationCount g) (has (bitOr done step)) (λ j. has done j || has step j) (λ j l. has-or done step j)
+done-mask g s step word low h k e =
+    cut-mask 32 (operationCount g) (bitOr (s .done) step) low (or-lt 32 (s .done) step h k) e
+    ∙ mask-same (operationCount g) (has (bitOr (s .done) step)) (λ j. has (s .done) j || has step j) (λ j l. has-or (s .done) step j)
 
-module _ (g : Graph) (done step : ℕ) where
+module _ (g : Graph) (s : State) (step : ℕ) where
+  abbrev done : ℕ
+  done = s .done
+
+  abbrev values : ℕ
+  values = s .values
+
   produced-lt : (set : ℕ) → produced g set < 2 ^ 32
   unfolding produced
   produced-lt set = mask-lt 32 (λ b. ltb b (controlCount g) && has set (producer g b))
@@ -56,10 +66,10 @@ module _ (g : Graph) (done step : ℕ) where
   unfolding begun
   has-begun b h = has-mask 32 (λ b. ltb b (controlCount g) && (has step (producer g b) && not (has done (producer g b)))) b h
 
-  pub values-mask : (values word : ℕ) → values < 2 ^ 32 → word < 2 ^ 32
-      → bitOr (bitAnd (produced g done) values) (bitAnd (begun g done step) word) ≡ after g done values step word .values
+  values-mask : (word : ℕ) → values < 2 ^ 32 → word < 2 ^ 32
+      → bitOr (bitAnd (produced g done) values) (bitAnd (begun g done step) word) ≡ after g s step word .values
   unfolding after resolved
-  values-mask values word v w = is-mask c next value (set-below c next inside) each
+  values-mask word v w = is-mask c next value (set-below c next inside) each
     where
       c : ℕ
       c = controlCount g
@@ -113,10 +123,10 @@ module _ (g : Graph) (done step : ℕ) where
       (subst T (has-begun b (member-below 32 (begun g done step) b begun-lt t)) t)))
 
   -- the next state depends only on the outcomes of the controls begun
-  pub after-outcome : (values word : ℕ) → word < 2 ^ 32
-      → after g done values step word ≡ after g done values step (bitAnd word (begun g done step))
+  pub after-outcome : (word : ℕ) → word < 2 ^ 32
+      → after g s step word ≡ after g s step (bitAnd word (begun g done step))
   unfolding after resolved
-  after-outcome values word w = λ i. record {
+  after-outcome word w = λ i. record {
     done = maskBelow (operationCount g) (λ j. has done j || has step j);
     values = mask-same (controlCount g) (value word) (value (bitAnd word (begun g done step))) each i;
   }
@@ -134,3 +144,36 @@ module _ (g : Graph) (done step : ℕ) where
           kept true s x y = refl
           kept false true x y = sym (and-true y)
           kept false false x y = refl
+
+  -- the fork leads to the next state
+  pub fallen-after : (word : ℕ) → values < 2 ^ 32 → word < 2 ^ 32 → fallen (forkOf g s step) word ≡ after g s step word
+  unfolding fallen forkOf after
+  fallen-after word v w = λ i. record {
+    done = maskBelow (operationCount g) (λ j. has done j || has step j);
+    values = values-mask word v w i;
+  }
+
+-- Words that say nothing but how the controls begun fall.
+module _ (f : Fork) (word : ℕ) where
+  pub part-falls : T (falls f (bitAnd word (f .begun)))
+  unfolding falls
+  part-falls =
+      none-any 32 (λ b. has (bitAnd word (f .begun)) b && not (has (f .begun) b))
+      (λ b h. and-not (has (bitAnd word (f .begun)) b) (not (has (f .begun) b)) (λ t.
+      not-not-intro (has (f .begun) b) (and-right (has word b) (has (f .begun) b) (subst T (has-and word (f .begun) b) t))))
+
+  pub falls-part : word < 2 ^ 32 → T (falls f word) → bitAnd word (f .begun) ≡ word
+  unfolding falls
+  falls-part h t =
+      set-ext 32 (bitAnd word (f .begun)) word (lt-of-le-of-lt (and-le-l word (f .begun)) h) h
+      (λ b l. has-and word (f .begun) b
+      ∙ same (has word b) (has (f .begun) b) (any-failed 32 (λ j. has word j && not (has (f .begun) j)) t b l))
+    where
+      same : (p q : Bool) → T (not (p && not q)) → (p && q) ≡ p
+      same true true u = refl
+      same true false u = absurd u
+      same false q u = refl
+
+pub words-all : (g : Graph) → Within g → wordCount g ≡ 2 ^ controlCount g
+unfolding wordCount
+words-all g w = ap (λ (t : Bool). cond t (2 ^ controlCount g) 0) (lt-ltb (controlCount g) 32 (omega (arith, few-controls w)))

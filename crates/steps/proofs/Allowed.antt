@@ -1,33 +1,28 @@
 -- A step that the masks of a state allow is a legal one, and the other way round. Assumes nothing.
-use Prim.Native.Nat.{ℕ, zero, suc, min, _^_, _≤_, _<_}
+use Prim.Native.Nat.{ℕ, zero, suc, min, _^_, _<_}
+use native.Mathlib.Nat.{lt-of-lt-of-le}
 use native.Mathlib.Omega.{arith}
-use mathlib.Core.Path.{_≡_, refl, sym, _∙_, ap, subst}
-use mathlib.Core.Bool.{Bool, true, false, not, _&&_, _||_, Bool·not-not}
-use lib.Dec.{T, eqb, leb, ltb, leb→le, ltb→lt, lt→ltb}
-use lib.ListN.{length, getD}
+use borrow.Author.Tests.{lt-ltb}
+use mathlib.Core.Path.{_≡_, refl, sym, _∙_, ap, ap₂, subst}
+use mathlib.Core.Bool.{Bool, true, false, cond, not, _&&_, _||_, Bool·not-not}
+use lib.Dec.{T, eqb, leb, ltb, ltb→lt, lt→ltb}
+use lib.ListN.{getD}
 use lib.Pow.{pow-mono}
 use Rattle.machine.specs.Sets.{has, allBelow, anyBelow, countBelow}
-use Rattle.machine.proofs.Truth.{and-left, and-right, both, not-and, and-not, not-not-elim, not-not-intro, same-test}
-use Rattle.machine.proofs.Sets.{all-at, all-of, any-same, all-same, count-same, any-failed, none-any, has-mask, member-below, set-below}
+use Rattle.machine.proofs.Truth.{and-left, and-right, both, not-and, and-not, not-not-elim, not-not-intro, same-test, and-same, and-turn, and-past}
+use Rattle.machine.proofs.Sets.{all-at, all-of, any-same, all-same, count-same, any-failed, none-any, has-mask, member-below, set-below, leb-not, none-all, count-cut}
 use Rattle.masks.proofs.Bits.{any-cut}
-use Rattle.meaning.specs.Graph.{Graph, operationCount, classCount, mostOperations, mostClasses, limit, class, byteAt}
-use Rattle.meaning.specs.Steps.{excluded, heldBack, demanded, overfull, legal}
-use Rattle.meaning.proofs.Legal.{legal-means}
-use Rattle.steps.specs.Parts.{sized}
-use Rattle.steps.specs.Masks.{among, constraintsOf, ofClass, classesOf, apart, within, roomy, fits, allows, nextAbove}
-use Rattle.steps.proofs.Above.{next-same}
-use Rattle.steps.proofs.Tests.{and-same, and-turn, and-past, leb-not, none-all, count-cut}
+use Rattle.meaning.specs.Graph.{Graph, operationCount, classCount, limit, class}
+use Rattle.meaning.specs.Steps.{State, excluded, heldBack, demanded, overfull, legal}
+use Rattle.meaning.proofs.Taken.{Within, few-operations, few-classes}
+use Rattle.steps.specs.Moves.{among, eight, ofClass, stepCount, movesIn, apart, within, leastFrom, roomy, fits, allows, stepFrom}
+use Rattle.steps.proofs.Above.{least-same}
+use Rattle.steps.proofs.Eights.{eight-at}
 
--- A graph whose operations and classes have room in the masks, and a step of a mask's width.
-module _ (g : Graph) (small : T (sized g)) where
-  few-operations : operationCount g ≤ 32
-  unfolding sized mostOperations mostClasses
-  few-operations =
-      omega (arith, leb→le (operationCount g) 24 (and-left (leb (operationCount g) 24) (leb (classCount g) 8) small))
-
-  few-classes : classCount g ≤ 8
-  unfolding sized mostOperations mostClasses
-  few-classes = leb→le (classCount g) 8 (and-right (leb (operationCount g) 24) (leb (classCount g) 8) small)
+-- A graph whose counts are within its edition's maxima, and so have room in the masks.
+module _ (g : Graph) (small : Within g) where
+  narrow : operationCount g < 32
+  narrow = omega (arith, few-operations small)
 
   has-among : (f : ℕ → Bool) (j : ℕ) → j < 32 → has (among g f) j ≡ (ltb j (operationCount g) && f j)
   unfolding among
@@ -35,7 +30,7 @@ module _ (g : Graph) (small : T (sized g)) where
 
   -- a test of operations, over all that a mask reaches
   any-among : (f : ℕ → Bool) → anyBelow 32 (λ j. f j && ltb j (operationCount g)) ≡ anyBelow (operationCount g) f
-  any-among f = any-cut 32 (operationCount g) f (λ j l t. omega (arith, few-operations))
+  any-among f = any-cut 32 (operationCount g) f (λ j l t. omega (arith, narrow))
 
   -- no member of a set is one of the operations at which f holds
   apart-among : (m : ℕ) (f : ℕ → Bool) → apart m (among g f) ≡ allBelow (operationCount g) (λ j. not (has m j && f j))
@@ -101,56 +96,57 @@ module _ (g : Graph) (small : T (sized g)) where
           (and-right (ltb step (2 ^ n)) (allBelow n (λ j. not (has step j && has done j))) t) j k) s)))))
 
   -- the limits
-  class-at : (k : ℕ) → k < 8 → getD (classesOf g) k 0 ≡ ofClass g k
-  unfolding classesOf
-  class-at zero h = refl
-  class-at (suc zero) h = refl
-  class-at (suc (suc zero)) h = refl
-  class-at (suc (suc (suc zero))) h = refl
-  class-at (suc (suc (suc (suc zero)))) h = refl
-  class-at (suc (suc (suc (suc (suc zero))))) h = refl
-  class-at (suc (suc (suc (suc (suc (suc zero)))))) h = refl
-  class-at (suc (suc (suc (suc (suc (suc (suc zero))))))) h = refl
-  class-at (suc (suc (suc (suc (suc (suc (suc (suc k)))))))) h = absurd (omega arith)
-
-  roomy-class : (done values step k : ℕ) → k < 8 → roomy (g .limits) (classesOf g) step k ≡ not (overfull g done values step k)
-  unfolding roomy overfull limit byteAt ofClass
-  roomy-class done values step k h =
-      ap (λ (n : ℕ). leb n (getD (g .limits) k 0))
-      (count-same 32 (λ j. has step j && has (getD (classesOf g) k 0) j)
+  roomy-class : (s : State) (step k : ℕ) → k < 8 → roomy (movesIn g s) step k ≡ not (overfull g step k)
+  unfolding roomy movesIn overfull ofClass
+  roomy-class s step k h =
+      ap₂ leb
+      (count-same 32 (λ j. has step j && has (getD (eight (ofClass g)) k 0) j)
       (λ j. (has step j && eqb (class g j) k) && ltb j (operationCount g))
-      (λ j l. ap (λ (t : Bool). has step j && t) (ap (λ (m : ℕ). has m j) (class-at k h) ∙ has-among (λ i. eqb (class g i) k) j l)
+      (λ j l. ap (λ (t : Bool). has step j && t) (ap (λ (m : ℕ). has m j) (eight-at (ofClass g) k h) ∙ has-among (λ i. eqb (class g i) k) j l)
       ∙ and-past (has step j) (ltb j (operationCount g)) (eqb (class g j) k))
-      ∙ count-cut 32 (operationCount g) (λ j. has step j && eqb (class g j) k) few-operations)
-      ∙ leb-not (countBelow (operationCount g) (λ j. has step j && eqb (class g j) k)) (getD (g .limits) k 0)
+      ∙ count-cut 32 (operationCount g) (λ j. has step j && eqb (class g j) k) (omega (arith, narrow)))
+      (eight-at (limit g) k h)
+      ∙ leb-not (countBelow (operationCount g) (λ j. has step j && eqb (class g j) k)) (limit g k)
 
-  fits-limits : (done values step : ℕ)
-      → fits (g .limits) (classesOf g) step ≡ allBelow (classCount g) (λ k. not (overfull g done values step k))
-  unfolding fits classCount
-  fits-limits done values step =
-      ap (λ (k : ℕ). allBelow k (roomy (g .limits) (classesOf g) step)) all
-      ∙ all-same (classCount g) (roomy (g .limits) (classesOf g) step) (λ k. not (overfull g done values step k))
-      (λ k h. roomy-class done values step k (omega (arith, few-classes)))
+  fits-limits : (s : State) (step : ℕ) → fits (movesIn g s) step ≡ allBelow (classCount g) (λ k. not (overfull g step k))
+  unfolding fits movesIn
+  fits-limits s step =
+      ap (λ (k : ℕ). allBelow k (roomy (movesIn g s) step)) all
+      ∙ all-same (classCount g) (roomy (movesIn g s) step) (λ k. not (overfull g step k))
+      (λ k h. roomy-class s step k (omega (arith, few-classes small)))
     where
-      all : min (length (g .limits)) 8 ≡ length (g .limits)
-      all = omega (arith, few-classes)
+      all : min (min (classCount g) 8) 8 ≡ classCount g
+      all = omega (arith, few-classes small)
 
-  pub allows-legal : (done values step : ℕ) → step < 2 ^ 32
-      → allows (g .limits) (classesOf g) (constraintsOf g done values) step ≡ legal g done values step
-  unfolding allows constraintsOf legal
-  allows-legal done values step h =
-      and-same (and-same (and-same (and-same (ap (λ (t : Bool). ltb 0 step && t) (fresh step done h))
-      (apart-among step (heldBack g done values)))
-      (fits-limits done values step)) (apart-among step (excluded g done values))) (within-among step (demanded g done values))
+  -- the number of steps
+  pub steps-all : (s : State) → movesIn g s .steps ≡ 2 ^ operationCount g
+  unfolding movesIn stepCount
+  steps-all s = ap (λ (t : Bool). cond t (2 ^ operationCount g) 0) (lt-ltb (operationCount g) 32 narrow)
 
-  -- the least allowed step above x is the least legal one
-  pub above-legal : (done values x : ℕ)
-      → nextAbove (2 ^ 32) (allows (g .limits) (classesOf g) (constraintsOf g done values)) x
-      ≡ nextAbove (2 ^ operationCount g) (legal g done values) x
-  above-legal done values x =
-      next-same (2 ^ 32) (2 ^ operationCount g) (allows (g .limits) (classesOf g) (constraintsOf g done values))
-      (legal g done values) x
-      (pow-mono few-operations) (allows-legal done values) (λ y t. legal-below done values y t)
+  -- steps of operations that are not done
+  fresh-steps : (s : State) (step : ℕ) → step < 2 ^ 32 → (ltb step (movesIn g s .steps) && within step (movesIn g s .undone))
+      ≡ (ltb step (2 ^ operationCount g) && allBelow (operationCount g) (λ j. not (has step j && has (s .done) j)))
+  unfolding movesIn
+  fresh-steps s step h =
+      ap₂ (λ (a b : Bool). a && b) (ap (ltb step) (steps-all s)) (fresh step (s .done) h)
+      ∙ twice (ltb step (2 ^ operationCount g)) (allBelow (operationCount g) (λ j. not (has step j && has (s .done) j)))
     where
-      legal-below : (done values y : ℕ) → T (legal g done values y) → y < 2 ^ operationCount g
-      legal-below done values y t = set-below (operationCount g) y (λ j h. legal-means g done values y .0 t .fresh j h .0)
+      twice : (a b : Bool) → (a && (a && b)) ≡ (a && b)
+      twice true b = refl
+      twice false b = refl
+
+  -- The moves in a state allow exactly the legal steps.
+  pub allows-legal : (s : State) (step : ℕ) → step < 2 ^ 32 → allows (movesIn g s) step ≡ legal g s step
+  unfolding allows movesIn legal
+  allows-legal s step h =
+      and-same (and-same (and-same (and-same (ap (λ (t : Bool). ltb 0 step && t) (fresh-steps s step h))
+      (apart-among step (heldBack g (s .done) (s .values))))
+      (fits-limits s step)) (apart-among step (excluded g (s .done) (s .values)))) (within-among step (demanded g (s .done) (s .values)))
+
+  -- the least step that they allow from x on is the least legal one
+  pub from-legal : (s : State) (x : ℕ) → stepFrom (movesIn g s) x ≡ leastFrom (2 ^ operationCount g) (legal g s) x
+  unfolding stepFrom
+  from-legal s x =
+      ap (λ (b : ℕ). leastFrom b (allows (movesIn g s)) x) (steps-all s)
+      ∙ least-same (2 ^ operationCount g) (allows (movesIn g s)) (legal g s) x
+      (λ y h. allows-legal s y (lt-of-lt-of-le h (pow-mono {j = 32} (omega (arith, narrow)))))

@@ -6,10 +6,9 @@ use native.Mathlib.Omega.{arith}
 use mathlib.Core.Path.{_≡_, refl, sym, _∙_, ap, subst}
 use mathlib.Core.Logic.{⊎-elim}
 use mathlib.Core.Bool.{Bool, true, false, cond, not, _&&_, _||_, or-true}
-use mathlib.Core.List.{List}
 use lib.Bits.{bitAnd, bitOr, and-le-l, and-le-r, or-shr}
 use lib.Dec.{T, eqb, ltb, eqb→eq, leb→le, le→leb}
-use lib.ListN.{length, getD}
+use lib.ListN.{getD}
 use lib.Pow.{pow-pos, high}
 use borrow.Author.Tests.{eq-eqb, lt-ltb, le-ltb}
 use Rattle.machine.specs.Sets.{has, countBelow}
@@ -17,8 +16,8 @@ use Rattle.machine.proofs.Says.{Says, says-test, says-ltb, says-and}
 use Rattle.machine.proofs.Truth.{and-left, and-right, both, or-cases, not-and, and-not, not-not-elim, not-not-intro, true-of, of-true}
 use Rattle.machine.proofs.Sets.{le-or-lt, all-at, all-of, any-failed, none-any, count-mono, has-zero, has-above, has-mod, set-ext, member-below, set-below}
 use Rattle.masks.proofs.Bits.{has-and, has-or, has-opposite, has-power, has-shift, or-one}
-use Rattle.steps.specs.Masks.{apart, within, roomy, fits, raised, allows}
-use Rattle.steps.specs.declared.Constraints.{Constraints}
+use Rattle.steps.specs.Moves.{apart, within, roomy, fits, raised, allows}
+use Rattle.steps.specs.declared.Moves.{Moves}
 use Rattle.steps.proofs.Above.{lowered}
 
 -- every member of a is a member of b
@@ -49,18 +48,18 @@ within-fewer a b m f t =
     not-and (has b j) (not (has m j)) (any-failed 32 (λ j. has b j && not (has m j)) t j h) (f j s)))
 
 -- limits are monotone
-pub fits-fewer : (limits classes : List ℕ) (a b : ℕ) → Fewer a b → T (fits limits classes b) → T (fits limits classes a)
+pub fits-fewer : (moves : Moves) (a b : ℕ) → Fewer a b → T (fits moves b) → T (fits moves a)
 unfolding fits roomy
-fits-fewer limits classes a b f t =
-    all-of (min (length limits) 8) (roomy limits classes a) (λ k h.
-    le→leb (members a k) (getD limits k 0)
-    (le-trans (count-mono 32 (λ j. has a j && has (getD classes k 0) j) (λ j. has b j && has (getD classes k 0) j)
-    (λ j l s. both (has b j) (has (getD classes k 0) j) (f j (and-left (has a j) (has (getD classes k 0) j) s))
-    (and-right (has a j) (has (getD classes k 0) j) s)))
-    (leb→le (members b k) (getD limits k 0) (all-at (min (length limits) 8) (roomy limits classes b) t k h))))
+fits-fewer moves a b f t =
+    all-of (min (moves .classes) 8) (roomy moves a) (λ k h.
+    le→leb (members a k) (getD (moves .limits) k 0)
+    (le-trans (count-mono 32 (λ j. has a j && has (getD (moves .members) k 0) j) (λ j. has b j && has (getD (moves .members) k 0) j)
+    (λ j l s. both (has b j) (has (getD (moves .members) k 0) j) (f j (and-left (has a j) (has (getD (moves .members) k 0) j) s))
+    (and-right (has a j) (has (getD (moves .members) k 0) j) s)))
+    (leb→le (members b k) (getD (moves .limits) k 0) (all-at (min (moves .classes) 8) (roomy moves b) t k h))))
   where
     members : ℕ → ℕ → ℕ
-    members m k = countBelow 32 (λ j. has m j && has (getD classes k 0) j)
+    members m k = countBelow 32 (λ j. has m j && has (getD (moves .members) k 0) j)
 
 has-lowered : (y j low i : ℕ) → has (lowered y j low) i ≡ cond (ltb i j) (has low i) (has y i)
 unfolding lowered
@@ -111,66 +110,72 @@ lowered-lt : (n y j low : ℕ) → y < 2 ^ n → Fewer low y → lowered y j low
 lowered-lt n y j low h f = set-below n (lowered y j low) (λ i t. member-below n y i h (lowered-fewer y j low f i t))
 
 -- the tests of an allowed step by name
-record Allowed (limits classes : List ℕ) (c : Constraints) (step : ℕ) : Type 0 where
+record Allowed (moves : Moves) (step : ℕ) : Type 0 where
   filled : 0 < step
-  fresh : T (within step (c .undone))
-  free : T (apart step (c .held))
-  room : T (fits limits classes step)
-  wanted : T (apart step (c .excluded))
-  complied : T (within (c .demanded) step)
+  below : step < moves .steps
+  fresh : T (within step (moves .undone))
+  free : T (apart step (moves .held))
+  room : T (fits moves step)
+  wanted : T (apart step (moves .excluded))
+  complied : T (within (moves .demanded) step)
 
-says-allows : (limits classes : List ℕ) (c : Constraints) (step : ℕ)
-    → Says (allows limits classes c step) (Allowed limits classes c step)
+says-allows : (moves : Moves) (step : ℕ)
+    → Says (allows moves step) (Allowed moves step)
 unfolding allows
-says-allows limits classes c step =
-    let r = says-and (says-and (says-and (says-and (says-and (says-ltb 0 step) (says-test (within step (c .undone))))
-    (says-test (apart step (c .held)))) (says-test (fits limits classes step))) (says-test (apart step (c .excluded))))
-    (says-test (within (c .demanded) step)) in
+says-allows moves step =
+    let r = says-and (says-and (says-and (says-and (says-and (says-ltb 0 step) (says-and (says-ltb step (moves .steps)) (says-test (within step (moves .undone)))))
+    (says-test (apart step (moves .held)))) (says-test (fits moves step))) (says-test (apart step (moves .excluded))))
+    (says-test (within (moves .demanded) step)) in
     record {
       to = λ t. let p = r .to t in
           record {
             filled = p .0 .0 .0 .0 .0;
-            fresh = p .0 .0 .0 .0 .1;
+            below = p .0 .0 .0 .0 .1 .0;
+            fresh = p .0 .0 .0 .0 .1 .1;
             free = p .0 .0 .0 .1;
             room = p .0 .0 .1;
             wanted = p .0 .1;
             complied = p .1;
           };
-      from = λ p. r .from (((((p .filled, p .fresh), p .free), p .room), p .wanted), p .complied);
+      from = λ p. r .from (((((p .filled, (p .below, p .fresh)), p .free), p .room), p .wanted), p .complied);
     }
 
 -- the closure that the search for the next allowed step needs
-pub allows-closed : (limits classes : List ℕ) (c : Constraints) → c .demanded < 2 ^ 32 → (y j : ℕ) → y < 2 ^ 32 → j < 32
-    → T (has y j) → T (allows limits classes c y)
-    → T (allows limits classes c (lowered y j (c .demanded))) × (lowered y j (c .demanded) ≤ y)
-allows-closed limits classes c d y j h l m t = (
-  says-allows limits classes c z .from (record {
+pub allows-closed : (moves : Moves) → moves .demanded < 2 ^ 32 → (y j : ℕ) → y < 2 ^ 32 → j < 32
+    → T (has y j) → T (allows moves y)
+    → T (allows moves (lowered y j (moves .demanded))) × (lowered y j (moves .demanded) ≤ y)
+allows-closed moves d y j h l m t = (
+  says-allows moves z .from (record {
     filled = ⊎-elim (λ (e : z ≡ 0). absurd (subst T (ap (λ (k : ℕ). has k j) e ∙ has-zero j) kept)) (λ (k : 0 < z). k)
         (eq-zero-or-pos z);
-    fresh = within-fewer z y (c .undone) fewer (p .fresh);
-    free = apart-fewer z y (c .held) fewer (p .free);
-    room = fits-fewer limits classes z y fewer (p .room);
-    wanted = apart-fewer z y (c .excluded) fewer (p .wanted);
+    below = lt-of-le-of-lt lower (p .below);
+    fresh = within-fewer z y (moves .undone) fewer (p .fresh);
+    free = apart-fewer z y (moves .held) fewer (p .free);
+    room = fits-fewer moves z y fewer (p .room);
+    wanted = apart-fewer z y (moves .excluded) fewer (p .wanted);
     complied = members-within low z
         (λ i s. subst T (sym (has-lowered y j low i)) (choose (ltb i j) (has low i) (has y i) s (f i s)));
   }),
-  fewer-le 32 z y (lowered-lt 32 y j low h f) fewer,
+  lower,
 )
   where
     low : ℕ
-    low = c .demanded
+    low = moves .demanded
 
     z : ℕ
     z = lowered y j low
 
-    p : Allowed limits classes c y
-    p = says-allows limits classes c y .to t
+    p : Allowed moves y
+    p = says-allows moves y .to t
 
     f : Fewer low y
     f = within-members low y d (p .complied)
 
     fewer : Fewer z y
     fewer = lowered-fewer y j low f
+
+    lower : z ≤ y
+    lower = fewer-le 32 z y (lowered-lt 32 y j low h f) fewer
 
     kept : T (has z j)
     kept = subst T (sym (has-lowered y j low j ∙ ap (λ (b : Bool). cond b (has low j) (has y j)) (le-ltb j j (le-refl j)))) m
@@ -193,13 +198,13 @@ pub raised-member : (x j low : ℕ) → T (has (raised x j low) j)
 raised-member x j low = of-true (has-raised x j low j ∙ rw (le-ltb j j (le-refl j), eq-eqb j j refl) (or-true (has x j)))
 
 -- an allowed step can be raised only at an operation that is ready
-pub allows-ready : (limits classes : List ℕ) (c : Constraints) → c .held < 2 ^ 32 → c .excluded < 2 ^ 32 → (step i : ℕ) → i < 32
-    → T (allows limits classes c (raised step i (c .demanded)))
-    → T (has (bitAnd (bitAnd (c .undone) (2 ^ 32 - 1 - c .held)) (2 ^ 32 - 1 - c .excluded)) i)
-allows-ready limits classes c b d step i h t =
-    outside (bitAnd (c .undone) (2 ^ 32 - 1 - c .held)) (c .excluded) d
-    (outside (c .undone) (c .held) b (within-at z (c .undone) i h (p .fresh) at) (apart-at z (c .held) i h (p .free) at))
-    (apart-at z (c .excluded) i h (p .wanted) at)
+pub allows-ready : (moves : Moves) → moves .held < 2 ^ 32 → moves .excluded < 2 ^ 32 → (step i : ℕ) → i < 32
+    → T (allows moves (raised step i (moves .demanded)))
+    → T (has (bitAnd (bitAnd (moves .undone) (2 ^ 32 - 1 - moves .held)) (2 ^ 32 - 1 - moves .excluded)) i)
+allows-ready moves b d step i h t =
+    outside (bitAnd (moves .undone) (2 ^ 32 - 1 - moves .held)) (moves .excluded) d
+    (outside (moves .undone) (moves .held) b (within-at z (moves .undone) i h (p .fresh) at) (apart-at z (moves .held) i h (p .free) at))
+    (apart-at z (moves .excluded) i h (p .wanted) at)
   where
     outside : (a m : ℕ) → m < 2 ^ 32 → T (has a i) → T (not (has m i)) → T (has (bitAnd a (2 ^ 32 - 1 - m)) i)
     outside a m l s u =
@@ -207,37 +212,14 @@ allows-ready limits classes c b d step i h t =
         (both (has a i) (not (has m i)) s u)
 
     z : ℕ
-    z = raised step i (c .demanded)
+    z = raised step i (moves .demanded)
 
-    p : Allowed limits classes c z
-    p = says-allows limits classes c z .to t
+    p : Allowed moves z
+    p = says-allows moves z .to t
 
     at : T (has z i)
-    at = raised-member step i (c .demanded)
+    at = raised-member step i (moves .demanded)
 
--- Outcomes are the sets of the controls begun: nothing is demanded, so that 0 stands below.
-module _ (begun : ℕ) where
-  pub outcome-closed : (y j : ℕ) → y < 2 ^ 32 → j < 32 → T (has y j) → T (within y begun)
-      → T (within (lowered y j 0) begun) × (lowered y j 0 ≤ y)
-  outcome-closed y j h l m t =
-      let f = lowered-fewer y j 0 none in
-      (within-fewer (lowered y j 0) y begun f t, fewer-le 32 (lowered y j 0) y (lowered-lt 32 y j 0 h none) f)
-    where
-      none : Fewer 0 y
-      none i s = absurd (subst T (has-zero i) s)
-
-  -- an outcome that is raised at a control begun is one again
-  pub outcome-raised : (word j : ℕ) → T (has begun j) → T (within (raised (bitAnd word begun) j 0) begun)
-  outcome-raised word j m =
-      members-within (raised (bitAnd word begun) j 0) begun
-      (λ i t. choose i (ltb i j) (subst T (has-raised (bitAnd word begun) j 0 i) t))
-    where
-      choose : (i : ℕ) (b : Bool) → T (cond b (has 0 i) (has (bitAnd word begun) i || eqb j i)) → T (has begun i)
-      choose i true t = absurd (subst T (has-zero i) t)
-      choose i false t =
-          ⊎-elim (λ (s : T (has (bitAnd word begun) i)). and-right (has word i) (has begun i) (subst T (has-and word begun i) s))
-          (λ (s : T (eqb j i)). subst (λ (k : ℕ). T (has begun k)) (eqb→eq j i s) m)
-          (or-cases (has (bitAnd word begun) i) (eqb j i) t)
-
-  pub outcome-ready : (x i : ℕ) → i < 32 → T (within (raised x i 0) begun) → T (has begun i)
-  outcome-ready x i h t = within-at (raised x i 0) begun i h t (raised-member x i 0)
+-- an allowed step is below the number of steps
+pub allows-below : (moves : Moves) (step : ℕ) → T (allows moves step) → step < moves .steps
+allows-below moves step t = says-allows moves step .to t .below

@@ -1,9 +1,7 @@
-pub mod Tests
-pub mod Scan
 pub mod Literals
 pub mod Rules
 pub mod Allowed
 pub mod After
 pub mod Above
 pub mod Fewer
-pub mod Content
+pub mod Eights

@@ -6,13 +6,12 @@ use mathlib.Core.Bool.{Bool, not, _&&_, _||_, Bool·not-not}
 use lib.Bits.{bitAnd, bitOr}
 use lib.Dec.{T, eqb, ltb}
 use Rattle.machine.specs.Sets.{has, anyBelow}
-use Rattle.machine.proofs.Truth.{and-left, and-right, or-cases}
+use Rattle.machine.proofs.Truth.{and-left, and-right, or-cases, and-turn}
 use Rattle.machine.proofs.Sets.{any-same, has-mask, mask-lt, member-below}
 use Rattle.masks.proofs.Bits.{has-and, has-or, has-opposite, share-test, any-cut}
 use Rattle.meaning.specs.Graph.{Graph, controlCount, producer}
 use Rattle.meaning.specs.Steps.{resolved, lost}
-use Rattle.steps.specs.Masks.{produced}
-use Rattle.steps.proofs.Tests.{and-turn}
+use Rattle.steps.specs.Moves.{produced}
 
 -- `settled` is the set of the controls resolved; a literal's control is below 32
 pub lost-masks : (g : Graph) (done values settled positive negative : ℕ) → settled ≡ produced g done → values < 2 ^ 32

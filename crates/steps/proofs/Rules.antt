@@ -2,10 +2,9 @@
 use Prim.Native.Nat.{ℕ, _-_, _^_, _<_}
 use native.Mathlib.Nat.{lt-of-le-of-lt, eq-zero-or-pos}
 use native.Mathlib.Omega.{arith}
-use mathlib.Core.Path.{_≡_, sym, _∙_, ap, ap₂}
+use mathlib.Core.Path.{_≡_, refl, sym, _∙_, ap, ap₂}
 use mathlib.Core.Logic.{⊎-elim}
-use mathlib.Core.Bool.{Bool, not, _&&_}
-use mathlib.Core.List.{List}
+use mathlib.Core.Bool.{Bool, true, false, not, _&&_}
 use lib.Bits.{bitAnd, and-le-l}
 use lib.Dec.{eqb, ltb, eqb→eq}
 use borrow.Author.Tests.{eq-eqb, ne-eqb, lt-ltb, le-ltb}
@@ -14,9 +13,9 @@ use Rattle.machine.proofs.Sets.{any-same, has-mask, mask-lt}
 use Rattle.masks.proofs.Bits.{has-and, has-opposite, is-mask, share-test, lack-test}
 use Rattle.meaning.specs.Graph.{Graph, operationCount, arcCount, source, target, kind}
 use Rattle.meaning.specs.Steps.{void, heldBack, demanded}
-use Rattle.steps.specs.Masks.{among, waiting, demanding, apart, within, fits, allows}
-use Rattle.steps.specs.declared.Constraints.{Constraints}
-use Rattle.steps.proofs.Tests.{and-same, and-turn, and-swap, and-last}
+use Rattle.steps.specs.Moves.{among, waiting, demanding, targets, apart, within, fits, allows}
+use Rattle.steps.specs.declared.Moves.{Moves}
+use Rattle.machine.proofs.Truth.{and-same, and-turn, and-swap, and-last}
 
 -- Here `all` is the set of the operations, as far as a mask reaches.
 module _ (g : Graph) (all : ℕ) (whole : all ≡ maskBelow 32 (λ j. ltb j (operationCount g))) where
@@ -33,9 +32,9 @@ module _ (g : Graph) (all : ℕ) (whole : all ≡ maskBelow 32 (λ j. ltb j (ope
   undone-mask done h = in-among (2 ^ 32 - 1 - done) (λ j. not (has done j)) (λ j k. has-opposite 32 done j h k)
 
   pub held-mask : (done values held : ℕ)
-      → held ≡ maskBelow 32 (λ i. anyBelow (arcCount g) (λ a. waiting g done values a && eqb (target g a) i))
+      → held ≡ targets g (arcCount g) (waiting g done values)
       → bitAnd all held ≡ among g (heldBack g done values)
-  unfolding heldBack waiting
+  unfolding targets heldBack waiting
   held-mask done values held e =
       in-among held (heldBack g done values)
       (λ j h. ap (λ (k : ℕ). has k j) e
@@ -45,9 +44,9 @@ module _ (g : Graph) (all : ℕ) (whole : all ≡ maskBelow 32 (λ j. ltb j (ope
       (λ a l. sym (and-turn (eqb (target g a) j) (not (void g done values a)) (not (has done (source g a))))))
 
   pub demanded-mask : (done values found : ℕ)
-      → found ≡ maskBelow 32 (λ i. anyBelow (arcCount g) (λ a. demanding g done a && eqb (target g a) i))
+      → found ≡ targets g (arcCount g) (demanding g done)
       → bitAnd all found ≡ among g (demanded g done values)
-  unfolding demanded demanding
+  unfolding targets demanded demanding
   demanded-mask done values found e =
       in-among found (demanded g done values)
       (λ j h. ap (λ (k : ℕ). has k j) e
@@ -59,23 +58,29 @@ module _ (g : Graph) (all : ℕ) (whole : all ≡ maskBelow 32 (λ j. ltb j (ope
       (λ t. ap (λ (k : ℕ). not (has done k)) (sym (eqb→eq (target g a) j t))))))
 
 -- The tests of a step, as the machine makes them.
-unfoldable pub tested : Constraints → ℕ → Bool
-tested c step =
-    not (eqb step 0) && eqb (bitAnd step (2 ^ 32 - 1 - c .undone)) 0 && eqb (bitAnd step (c .held)) 0
-    && eqb (bitAnd step (c .excluded)) 0 && eqb (bitAnd (c .demanded) (2 ^ 32 - 1 - step)) 0
+unfoldable pub tested : Moves → ℕ → Bool
+tested m step =
+    not (eqb step 0) && ltb step (m .steps) && eqb (bitAnd step (2 ^ 32 - 1 - m .undone)) 0 && eqb (bitAnd step (m .held)) 0
+    && eqb (bitAnd step (m .excluded)) 0 && eqb (bitAnd (m .demanded) (2 ^ 32 - 1 - step)) 0
 
-pub allows-tested : (limits classes : List ℕ) (c : Constraints) (step : ℕ) → step < 2 ^ 32 → c .undone < 2 ^ 32
-    → c .demanded < 2 ^ 32
-    → allows limits classes c step ≡ (tested c step && fits limits classes step)
+pub allows-tested : (m : Moves) (step : ℕ) → step < 2 ^ 32 → m .undone < 2 ^ 32 → m .demanded < 2 ^ 32
+    → allows m step ≡ (tested m step && fits m step)
 unfolding allows tested within apart
-allows-tested limits classes c step h u d =
-    and-last (ltb 0 step) (within step (c .undone)) (apart step (c .held)) (fits limits classes step)
-    (apart step (c .excluded)) (within (c .demanded) step)
-    ∙ ap (λ (t : Bool). t && fits limits classes step)
-    (and-same (and-same (and-same (and-same filled (sym (lack-test 32 step (c .undone) h u)))
-    (sym (share-test 32 step (c .held) h)))
-    (sym (share-test 32 step (c .excluded) h))) (sym (lack-test 32 (c .demanded) step d h)))
+allows-tested m step h u d =
+    ap (λ (t : Bool). (((t && apart step (m .held)) && fits m step) && apart step (m .excluded)) && within (m .demanded) step)
+    (sym (and-assoc (ltb 0 step) (ltb step (m .steps)) (within step (m .undone))))
+    ∙ and-last (ltb 0 step && ltb step (m .steps)) (within step (m .undone)) (apart step (m .held)) (fits m step)
+    (apart step (m .excluded)) (within (m .demanded) step)
+    ∙ ap (λ (t : Bool). t && fits m step)
+    (and-same (and-same (and-same
+    (and-same (ap (λ (t : Bool). t && ltb step (m .steps)) filled) (sym (lack-test 32 step (m .undone) h u)))
+    (sym (share-test 32 step (m .held) h)))
+    (sym (share-test 32 step (m .excluded) h))) (sym (lack-test 32 (m .demanded) step d h)))
   where
+    and-assoc : (a b c : Bool) → ((a && b) && c) ≡ (a && (b && c))
+    and-assoc true b c = refl
+    and-assoc false b c = refl
+
     filled : ltb 0 step ≡ not (eqb step 0)
     filled =
         ⊎-elim (λ (e : step ≡ 0). le-ltb 0 step (omega arith) ∙ sym (ap not (eq-eqb step 0 e)))

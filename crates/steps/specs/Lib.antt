@@ -1,2 +1,3 @@
-pub mod Parts
-pub mod Masks
+pub mod States
+pub mod Moves
+pub mod Forks

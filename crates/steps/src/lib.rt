@@ -1,87 +1,121 @@
-// What a clock may do: the constraints of a state, legal steps in ascending order, and next states.
-// A graph comes as the bytes of its parts, and a set of operations or of controls as a mask.
+// What a clock may do in a state, asked once for a state; legal steps in ascending order; what a step leads to, asked once
+// for a step. A graph comes as its file, a state by value.
+use masks::Set;
+use parts::Arc;
+use parts::Literals;
 ghost use mathlib.Core.Path.{_≡_};
-ghost use mathlib.Core.Bool.{not, _&&_, _||_};
-ghost use Prim.Native.Nat.{ℕ, min, _+_, _*_, _^_, _/_, _<_};
-ghost use lib.Bits.{bitAnd};
-ghost use lib.Dec.{eqb};
-ghost use lib.ListN.{length, getD};
+ghost use mathlib.Core.Bool.{_||_};
+ghost use Prim.Native.Nat.{ℕ, min, _<_};
 ghost use Rattle.machine.specs.Sets.{has};
-ghost use Rattle.meaning.specs.Graph.{Graph, class, source, target};
-ghost use Rattle.meaning.specs.Steps.{lost, excluded, void, complete, legal, after};
-ghost use Rattle.steps.specs.Parts.{graphOf, withControls, withOperations, withArcs, withPaths, withRules, sized};
-ghost use Rattle.steps.specs.Masks.{among, produced, raised, waiting, demanding, constraintsOf, ofClass, classesOf, roomy, within, fits, allows, nextAbove, begun};
+ghost use Rattle.meaning.specs.Graph.{Graph, content, limit};
+ghost use Rattle.meaning.specs.Steps.{machineOf, same, before, lost, excluded};
+ghost use Rattle.masks.specs.Width.{setWidth};
+ghost use Rattle.parts.specs.Fields.{literalsOf, IsArc, OfLimits, OfOperations, OfControls, OfArcs};
+ghost use Rattle.steps.specs.States.{stateOf};
+ghost use Rattle.steps.specs.Moves.{produced, waiting, demanding, Pulled, eight, Sets, joined, IsSorted, stepCount, movesIn, roomy, fits, allows, stepFrom, raised};
+ghost use Rattle.steps.specs.Forks.{wordCount, forkOf, fallen, falls};
 
-// What the constraints say of the operations in one state: those not done, those that a dependency holds back, those
-// excluded, and those that a follow arc demands.
-pub struct Constraints {
-    pub undone: u32,
-    pub held: u32,
-    pub excluded: u32,
-    pub demanded: u32,
+// A state: the operations done and the values resolved.
+pub struct State {
+    pub done: Set,
+    pub values: u32,
+}
+
+// The start: nothing is done.
+pub fn start() -> State
+    ensures { λ r. ⌜ ((g : Graph) → stateOf r ≡ machineOf g .start) ⌝ }
+{
+    State { done: 0, values: 0 }
+}
+
+// Both states are the same.
+pub fn same(a: State, b: State) -> bool
+    ensures { λ r. ⌜ r ≡ same (stateOf a) (stateOf b) ⌝ }
+{
+    (a.done == b.done) & (a.values == b.values)
+}
+
+// State a comes before state b in the rows of one cycle.
+pub fn before(a: State, b: State) -> bool
+    ensures { λ r. ⌜ r ≡ before (stateOf a) (stateOf b) ⌝ }
+{
+    (a.values < b.values) | ((a.values == b.values) & (a.done < b.done))
+}
+
+// How many words there are: a word says how every branch test of a run falls. None where a mask cannot hold them.
+pub fn word_count(graph: &[u8]) -> u32
+    ensures { λ r. ⌜ r ≡ wordCount (content (now (graph .entry))) ⌝ }
+{
+    let n = parts::controls(graph).len();
+    if n < 32 { 1 << n } else { 0 }
+}
+
+// No run of legal steps is longer.
+pub fn horizon(graph: &[u8]) -> usize
+    ensures { λ r. ⌜ r ≡ machineOf (content (now (graph .entry))) .horizon ⌝ }
+{
+    parts::operation_count(parts::edition(graph), parts::operations(graph))
+}
+
+// What a clock may do in a state: how many steps there are, legal or not; the operations not done, those that a dependency
+// holds back, those excluded, and those that a follow arc demands; how many classes there are, their members and limits.
+pub struct Moves {
+    pub steps: Set,
+    pub undone: Set,
+    pub held: Set,
+    pub excluded: Set,
+    pub demanded: Set,
+    pub classes: usize,
+    pub members: [Set; 8],
+    pub limits: [u8; 8],
+}
+
+// What a step leads to: the controls that it begins, the operations done afterwards, and the values that stay.
+pub struct Fork {
+    pub begun: u32,
+    pub done: Set,
+    pub kept: u32,
 }
 
 // The controls whose operation is in the set: of the operations done, the controls resolved.
-pub fn produced(controls: &[u8], set: u32) -> u32
-    ensures { λ r. ⌜ withControls (now (controls .entry)) (λ g. r ≡ produced g set) ⌝ }
+fn produced(controls: &[u8], set: Set) -> u32
+    ensures { λ r. ⌜ OfControls (now (controls .entry)) (λ g. r ≡ produced g set) ⌝ }
 {
     let mut found = 0;
     let mut b = 0;
     while b < controls.len() {
-        found = masks::with(found, b, masks::has(set, controls[b] as usize));
+        found = masks::with(found, b, masks::has(set, parts::producer(controls, b)));
         b += 1;
     }
     found
 }
 
 // One of these literals is lost.
-fn lost(resolved: u32, values: u32, positive: u8, negative: u8) -> bool
-    ensures { λ r. ⌜ ((g : Graph) (done : ℕ) → resolved ≡ produced g done → r ≡ lost g done values (record { onTrue = positive; onFalse = negative })) ⌝ }
+fn lost(resolved: u32, values: u32, l: Literals) -> bool
+    ensures { λ r. ⌜ ((g : Graph) (done : ℕ) → resolved ≡ produced g done → r ≡ lost g done values (literalsOf l)) ⌝ }
 {
-    resolved & (positive as u32 & !values | negative as u32 & values) != 0
-}
-
-// The operations that are excluded.
-fn excluded(operations: &[u8], resolved: u32, values: u32) -> u32
-    ensures { λ r. ⌜ withOperations (now (operations .entry)) (λ g. (done : ℕ) → resolved ≡ produced g done → r ≡ among g (excluded g done values)) ⌝ }
-{
-    let mut found = 0;
-    let mut j = 0;
-    while j < operations.len() / 3 {
-        let out = lost(
-            resolved,
-            values,
-            operations[3 * j + 1],
-            operations[3 * j + 2],
-        );
-        found = masks::with(found, j, out);
-        j += 1;
-    }
-    found
+    resolved & (l.on_true & !values | l.on_false & values) != 0
 }
 
 // Operation j is done or excluded.
-fn settled(operations: &[u8], j: usize, done: u32, resolved: u32, values: u32) -> bool
-    requires { ⌜ j < length (now operations) / 3 ⌝ }
-    ensures { λ r. ⌜ withOperations (now (operations .entry)) (λ g. resolved ≡ produced g done → r ≡ (has done j || excluded g done values j)) ⌝ }
+fn settled(edition: u32, operations: &[u8], resolved: u32, s: State, j: usize) -> bool
+    ensures { λ r. ⌜ OfOperations edition (now (operations .entry)) (λ g. resolved ≡ produced g (s .done) → r ≡ (has (s .done) j || excluded g (s .done) (s .values) j)) ⌝ }
 {
-    masks::has(done, j)
-        | lost(
-            resolved,
-            values,
-            operations[3 * j + 1],
-            operations[3 * j + 2],
-        )
+    let path = parts::operation_at(edition, operations, j).path;
+    masks::has(s.done, j) | lost(resolved, s.values, path)
 }
 
 // Every operation is done or excluded.
-pub fn complete(operations: &[u8], controls: &[u8], done: u32, values: u32) -> bool
-    ensures { λ r. ⌜ withPaths (now (operations .entry)) (now (controls .entry)) (λ g. r ≡ complete g done values) ⌝ }
+pub fn complete(graph: &[u8], s: State) -> bool
+    ensures { λ r. ⌜ r ≡ machineOf (content (now (graph .entry))) .complete (stateOf s) ⌝ }
 {
-    let resolved = produced(controls, done);
+    let edition = parts::edition(graph);
+    let operations = parts::operations(graph);
+    let resolved = produced(parts::controls(graph), s.done);
+    let n = parts::operation_count(edition, operations);
     let mut j = 0;
-    while j < operations.len() / 3 {
-        if !settled(operations, j, done, resolved, values) {
+    while j < n {
+        if !settled(edition, operations, resolved, s, j) {
             return false;
         }
         j += 1;
@@ -89,114 +123,148 @@ pub fn complete(operations: &[u8], controls: &[u8], done: u32, values: u32) -> b
     true
 }
 
-// Arc a holds its target back: it is not void and its source is not done.
-fn waits(arcs: &[u8], a: usize, done: u32, resolved: u32, values: u32) -> bool
-    requires { ⌜ a < length (now arcs) / 5 ⌝ }
-    ensures { λ r. ⌜ withArcs (now (arcs .entry)) (λ g. resolved ≡ produced g done → r ≡ waiting g done values a) ⌝ }
+// The arc holds its target back: it is not void and its source is not done.
+fn waits(arc: Arc, resolved: u32, s: State) -> bool
+    ensures { λ r. ⌜ ((g : Graph) (a : ℕ) → IsArc g a arc → resolved ≡ produced g (s .done) → r ≡ waiting g (s .done) (s .values) a) ⌝ }
 {
-    !lost(resolved, values, arcs[5 * a + 3], arcs[5 * a + 4])
-        & !masks::has(done, arcs[5 * a] as usize)
+    let joins = arc.joins;
+    !lost(resolved, s.values, joins) & !masks::has(s.done, arc.source)
 }
 
-// Arc a demands its target: it is a follow arc whose source is done and whose target is not.
-fn demands(arcs: &[u8], a: usize, done: u32) -> bool
-    requires { ⌜ a < length (now arcs) / 5 ⌝ }
-    ensures { λ r. ⌜ withArcs (now (arcs .entry)) (λ g. r ≡ demanding g done a) ⌝ }
+// The arc demands its target: it is a follow arc whose source is done and whose target is not.
+fn demands(arc: Arc, done: Set) -> bool
+    ensures { λ r. ⌜ ((g : Graph) (a : ℕ) → IsArc g a arc → r ≡ demanding g done a) ⌝ }
 {
-    let follow = arcs[5 * a + 2] == 1;
-    follow & masks::has(done, arcs[5 * a] as usize) & !masks::has(done, arcs[5 * a + 1] as usize)
+    (arc.kind == 1) & masks::has(done, arc.source) & !masks::has(done, arc.target)
 }
 
-// What the constraints say of the operations in a state, in one pass over the operations and one over the arcs.
-pub fn constraints_of(
-    operations: &[u8],
-    controls: &[u8],
-    arcs: &[u8],
-    done: u32,
-    values: u32,
-) -> Constraints
-    ensures { λ r. ⌜ withRules (now (operations .entry)) (now (controls .entry)) (now (arcs .entry)) (λ g. r ≡ constraintsOf g done values) ⌝ }
+// What the arcs say of their targets: which are held back, and which are demanded.
+struct Pulls {
+    pub held: Set,
+    pub demanded: Set,
+}
+
+fn arc_pulls(arcs: &[u8], resolved: u32, s: State) -> Pulls
+    ensures { λ r. ⌜ OfArcs (now (arcs .entry)) (λ g. resolved ≡ produced g (s .done) → Pulled g (stateOf s) r) ⌝ }
 {
-    let all = masks::below(operations.len() / 3);
-    let resolved = produced(controls, done);
-    let out = excluded(operations, resolved, values);
+    let n = parts::arc_count(arcs);
     let mut held = 0;
     let mut demanded = 0;
     let mut a = 0;
-    while a < arcs.len() / 5 {
-        let target = arcs[5 * a + 1] as usize;
-        held = masks::with(held, target, waits(arcs, a, done, resolved, values));
-        demanded = masks::with(demanded, target, demands(arcs, a, done));
+    while a < n {
+        let arc = parts::arc_at(arcs, a);
+        held = masks::with(held, arc.target, waits(arc, resolved, s));
+        demanded = masks::with(demanded, arc.target, demands(arc, s.done));
         a += 1;
     }
-    Constraints {
-        undone: all & !done,
-        held: all & held,
-        excluded: out,
-        demanded: all & demanded,
+    Pulls { held, demanded }
+}
+
+// Adds operation j to the members of its class, if that is one of the first eight.
+fn join(members: &mut [Set; 8], class: usize, j: usize)
+    requires { ⌜ Sets (now members) ⌝ }
+    ensures { λ _. ⌜ now (members .exit) ≡ joined (now (members .entry)) «class» j ⌝ }
+{
+    if class < 8 {
+        members[class] = masks::with(members[class], j, true);
     }
 }
 
-// Operation j is of the class.
-fn belongs(operations: &[u8], j: usize, class: u8) -> bool
-    requires { ⌜ j < length (now operations) / 3 ⌝ }
-    ensures { λ r. ⌜ r ≡ eqb (getD (now (operations .entry)) (3 * j) 0) «class» ⌝ }
-{
-    operations[3 * j] == class
+// What the operations say: which are excluded, and the members of each of the first eight classes.
+struct Sorted {
+    pub excluded: Set,
+    pub members: [Set; 8],
 }
 
-// The operations of one class.
-fn of_class(operations: &[u8], class: u8) -> u32
-    ensures { λ r. ⌜ withOperations (now (operations .entry)) (λ g. r ≡ ofClass g «class») ⌝ }
+fn sort(edition: u32, operations: &[u8], resolved: u32, values: u32) -> Sorted
+    ensures { λ r. ⌜ OfOperations edition (now (operations .entry)) (λ g. (done : ℕ) → resolved ≡ produced g done → IsSorted g done values r) ⌝ }
 {
-    let mut found = 0;
+    let n = parts::operation_count(edition, operations);
+    let mut excluded = 0;
+    let mut members = [0; 8];
     let mut j = 0;
-    while j < operations.len() / 3 {
-        found = masks::with(found, j, belongs(operations, j, class));
+    while j < n {
+        let operation = parts::operation_at(edition, operations, j);
+        let path = operation.path;
+        excluded = masks::with(excluded, j, lost(resolved, values, path));
+        join(&mut members, operation.class, j);
         j += 1;
     }
-    found
+    Sorted { excluded, members }
 }
 
-// The operations of each class, once for a graph.
-pub fn classes(operations: &[u8]) -> [u32; 8]
-    ensures { λ r. ⌜ withOperations (now (operations .entry)) (λ g. r ≡ classesOf g) ⌝ }
+// The limits of the first eight classes.
+fn first_limits(limits: &[u8]) -> [u8; 8]
+    ensures { λ r. ⌜ OfLimits (now (limits .entry)) (λ g. r ≡ eight (limit g)) ⌝ }
 {
     [
-        of_class(operations, 0),
-        of_class(operations, 1),
-        of_class(operations, 2),
-        of_class(operations, 3),
-        of_class(operations, 4),
-        of_class(operations, 5),
-        of_class(operations, 6),
-        of_class(operations, 7),
+        parts::limit(limits, 0),
+        parts::limit(limits, 1),
+        parts::limit(limits, 2),
+        parts::limit(limits, 3),
+        parts::limit(limits, 4),
+        parts::limit(limits, 5),
+        parts::limit(limits, 6),
+        parts::limit(limits, 7),
     ]
 }
 
-// How many of the limits are those of the first eight classes.
+// How many of the classes are among the first eight.
 fn first_eight(n: usize) -> usize
     ensures { λ r. ⌜ r ≡ min n 8 ⌝ }
 {
     if n < 8 { n } else { 8 }
 }
 
-// Class k has no more members in the step than its limit.
-fn roomy(limits: &[u8], classes: &[u32; 8], step: u32, k: usize) -> bool
-    requires { ⌜ (k < length (now limits)) × (k < 8) ⌝ }
-    ensures { λ r. ⌜ r ≡ roomy (now (limits .entry)) (now (classes .entry)) step k ⌝ }
+// How many steps n operations have; none where a set cannot hold them.
+fn step_count(n: usize) -> Set
+    ensures { λ r. ⌜ r ≡ stepCount n ⌝ }
 {
-    u32::count_ones(step & classes[k]) <= limits[k] as u32
+    if n < 32 { 1 << n } else { 0 }
+}
+
+// What a clock may do in a state.
+pub fn moves_in(graph: &[u8], s: State) -> Moves
+    ensures { λ r. ⌜ r ≡ movesIn (content (now (graph .entry))) (stateOf s) ⌝ }
+{
+    let edition = parts::edition(graph);
+    let operations = parts::operations(graph);
+    let limits = parts::limits(graph);
+    let n = parts::operation_count(edition, operations);
+    let all = masks::below(n);
+    let resolved = produced(parts::controls(graph), s.done);
+    let pulls = arc_pulls(parts::arcs(graph), resolved, s);
+    let sorted = sort(edition, operations, resolved, s.values);
+    let out = sorted.excluded;
+    let members = sorted.members;
+    Moves {
+        steps: step_count(n),
+        undone: all & !s.done,
+        held: all & pulls.held,
+        excluded: out,
+        demanded: all & pulls.demanded,
+        classes: first_eight(limits.len()),
+        members,
+        limits: first_limits(limits),
+    }
+}
+
+// Class k has no more members in the step than its limit.
+fn roomy(m: Moves, step: Set, k: usize) -> bool
+    requires { ⌜ k < 8 ⌝ }
+    ensures { λ r. ⌜ r ≡ roomy m step k ⌝ }
+{
+    masks::count(step & m.members[k]) <= m.limits[k] as u32
 }
 
 // No class has more members in the step than its limit.
-fn fits(limits: &[u8], classes: &[u32; 8], step: u32) -> bool
-    ensures { λ r. ⌜ r ≡ fits (now (limits .entry)) (now (classes .entry)) step ⌝ }
+fn fits(m: Moves, step: Set) -> bool
+    ensures { λ r. ⌜ r ≡ fits m step ⌝ }
 {
-    let n = first_eight(limits.len());
+    let n = first_eight(m.classes);
     let mut k = 0;
     while k < n {
-        if !roomy(limits, classes, step, k) {
+        if !roomy(m, step, k) {
             return false;
         }
         k += 1;
@@ -204,99 +272,76 @@ fn fits(limits: &[u8], classes: &[u32; 8], step: u32) -> bool
     true
 }
 
-// The step is legal, by the masks of the state and of the classes. The limits come last: the other tests are cheap.
-fn allows(limits: &[u8], classes: &[u32; 8], c: Constraints, step: u32) -> bool
-    ensures { λ r. ⌜ r ≡ allows (now (limits .entry)) (now (classes .entry)) c step ⌝ }
+// The moves allow the step. The limits come last: the other tests are cheap.
+pub fn allows(m: Moves, step: Set) -> bool
+    ensures { λ r. ⌜ r ≡ allows m step ⌝ }
 {
-    let fresh = (step != 0) & (step & !c.undone == 0);
-    let ready = fresh & (step & c.held == 0) & (step & c.excluded == 0);
-    if ready & (c.demanded & !step == 0) {
-        fits(limits, classes, step)
+    let fresh = (step != 0) & (step < m.steps) & (step & !m.undone == 0);
+    let ready = fresh & (step & m.held == 0) & (step & m.excluded == 0);
+    if ready & (m.demanded & !step == 0) {
+        fits(m, step)
     } else {
         false
     }
 }
 
-// The step is legal in the state. A graph with more operations or classes than its edition allows has no legal step.
-pub fn legal(
-    limits: &[u8],
-    operations: &[u8],
-    controls: &[u8],
-    arcs: &[u8],
-    done: u32,
-    values: u32,
-    step: u32,
-) -> bool
-    ensures { λ r. ⌜ (let g = graphOf (now (limits .entry)) (now (operations .entry)) (now (controls .entry)) (now (arcs .entry)) in r ≡ (sized g && legal g done values step)) ⌝ }
-{
-    if operations.len() / 3 > 24 {
-        return false;
-    }
-    if limits.len() > 8 {
-        return false;
-    }
-    let members = classes(operations);
-    let c = constraints_of(operations, controls, arcs, done, values);
-    allows(limits, &members, c, step)
-}
-
-// The operations done after a step: what is done stays done.
-pub fn done_after(operations: &[u8], done: u32, step: u32) -> u32
-    ensures { λ r. ⌜ withOperations (now (operations .entry)) (λ g. (values word : ℕ) → r ≡ after g done values step word .done) ⌝ }
-{
-    (done | step) & masks::below(operations.len() / 3)
-}
-
-// The controls that a step resolves.
-pub fn begun(controls: &[u8], done: u32, step: u32) -> u32
-    ensures { λ r. ⌜ withControls (now (controls .entry)) (λ g. r ≡ begun g done step) ⌝ }
-{
-    produced(controls, step) & !produced(controls, done)
-}
-
-// The values after a step whose controls fall as the word says: a value stays, and every other control has none.
-pub fn values_after(controls: &[u8], done: u32, values: u32, step: u32, word: u32) -> u32
-    ensures { λ r. ⌜ withControls (now (controls .entry)) (λ g. r ≡ after g done values step word .values) ⌝ }
-{
-    produced(controls, done) & values | begun(controls, done, step) & word
-}
-
 // The number x raised at j: j joins, and below j are the members of low alone.
-fn raised(x: u32, j: u32, low: u32) -> u32
-    requires { ⌜ j < 32 ⌝ }
+fn raised(x: Set, j: u32, low: Set) -> Set
+    requires { ⌜ j < setWidth ⌝ }
     ensures { λ r. ⌜ r ≡ raised x j low ⌝ }
 {
     (x >> j | 1) << j | low & ((1 << j) - 1)
 }
 
-// The least step above the given one that the masks allow, and 0 where there is none: from 0 on all legal steps come, in
-// ascending order. An allowed step that is raised at j is least with only what is demanded below j; and if that breaks a
-// limit, so does every other step that is raised at j, since limits are monotone. So there is one test for each free operation.
-pub fn step_above(limits: &[u8], classes: &[u32; 8], c: Constraints, step: u32) -> u32
-    ensures { λ r. ⌜ r ≡ nextAbove (2 ^ 32) (allows (now (limits .entry)) (now (classes .entry)) c) step ⌝ }
+// The least step that the moves allow from a number on, and the number of steps where there is none. An allowed step that is
+// raised at j is least with only what is demanded below j; and if that breaks a limit, so does every other step that is raised
+// at j, since limits are monotone. So there is one test for each free operation.
+pub fn step_from(m: Moves, from: Set) -> Set
+    ensures { λ r. ⌜ r ≡ stepFrom m from ⌝ }
 {
-    let low = c.demanded;
-    let mut free = c.undone & !c.held & !c.excluded & !step;
+    if allows(m, from) {
+        return from;
+    }
+    let low = m.demanded;
+    let mut free = m.undone & !m.held & !m.excluded & !from;
     while free != 0 {
-        let j = u32::trailing_zeros(free);
-        let next = raised(step, j, low);
-        if allows(limits, classes, c, next) {
+        let j = masks::lowest(free);
+        let next = raised(from, j, low);
+        if allows(m, next) {
             return next;
         }
         free = free & !(1 << j);
     }
-    0
+    m.steps
 }
 
-// The least set of controls begun above the word's, and 0 after the last: from 0 on all outcomes come, in ascending order.
-pub fn outcome_above(begun: u32, word: u32) -> u32
-    ensures { λ r. ⌜ r ≡ nextAbove (2 ^ 32) (λ w. within w begun) (bitAnd word begun) ⌝ }
+// What a step in a state leads to.
+pub fn fork_of(graph: &[u8], s: State, step: Set) -> Fork
+    ensures { λ r. ⌜ r ≡ forkOf (content (now (graph .entry))) (stateOf s) step ⌝ }
 {
-    let outcome = word & begun;
-    let free = begun & !outcome;
-    if free == 0 {
-        0
-    } else {
-        raised(outcome, u32::trailing_zeros(free), 0)
+    let controls = parts::controls(graph);
+    let resolved = produced(controls, s.done);
+    let n = parts::operation_count(parts::edition(graph), parts::operations(graph));
+    Fork {
+        begun: produced(controls, step) & !resolved,
+        done: (s.done | step) & masks::below(n),
+        kept: resolved & s.values,
+    }
+}
+
+// The word says nothing but how the controls begun fall.
+pub fn falls(f: Fork, word: u32) -> bool
+    ensures { λ r. ⌜ r ≡ falls f word ⌝ }
+{
+    word & !f.begun == 0
+}
+
+// The next state where the controls begun fall as the word says.
+pub fn fallen(f: Fork, word: u32) -> State
+    ensures { λ r. ⌜ stateOf r ≡ fallen f word ⌝ }
+{
+    State {
+        done: f.done,
+        values: f.kept | f.begun & word,
     }
 }

@@ -2,7 +2,10 @@
 //! made to be compared with the proved one.
 
 pub mod draft;
-#[cfg(feature = "proved")]
+#[cfg(all(feature = "proved", target_arch = "x86_64"))]
+pub mod ffi;
+#[cfg(all(feature = "proved", not(target_arch = "x86_64")))]
+#[path = "peer.rs"]
 pub mod ffi;
 pub mod generate;
 pub mod oracle;

@@ -1,14 +1,16 @@
 -- `checker::check` meets its contract. Assumes nothing.
 use mathlib.Core.Path.{sym, _∙_, ap}
 use borrow.Author.Needs.{needs}
+use Rattle.meaning.proofs.Taken.{accepted-of}
 use Rattle.reader.specs.Reading.{verdictOf, valuesOf as readValues}
-use Rattle.checker.proofs.Verdicts.{counted, graph-refused, table-refused, table-accepted}
+use Rattle.reader.proofs.Verdicts.{read-taken}
+use Rattle.checker.proofs.Verdicts.{graph-refused, table-refused, table-accepted}
 use Rattle.checker.proofs.check.Statement.{statement}
 use Rattle.checker.proofs.check.Tie as tie
 
-fault-for-requires : tie.Need-fault-for-requires
-fault-for-requires c κs =
-    counted _ _ _ _ _ (sym (ap readValues (c .before .operations .given .1)) ∙ c .before .before .before .read-graph .ensures)
+table-fault-requires : tie.Need-table-fault-requires
+table-fault-requires c κs =
+    accepted-of _ (read-taken _ _ _ _ _ (sym (ap readValues (c .enum-told .given .1)) ∙ c .before .before .read-graph .ensures)) .within
 
 returns : tie.Need-returns
 returns c =
@@ -18,19 +20,19 @@ returns-2 : tie.Need-returns-2
 unfolding verdictOf
 returns-2 c =
     let d = c .before .before .before in
-    let r = d .before .before in
+    let r = d .before in
     table-refused _ _ _ _
-    (counted _ _ _ _ _ (sym (ap readValues (r .operations .given .1)) ∙ r .before .before .read-graph .ensures) .verdict)
-    (sym (d .fault-for .ensures) ∙ ap verdictOf (c .before .number2 .given .1))
+    (read-taken _ _ _ _ _ (sym (ap readValues (r .enum-told .given .1)) ∙ r .before .before .read-graph .ensures))
+    (sym (d .table-fault .ensures) ∙ ap verdictOf (c .before .number2 .given .1))
 
 returns-3 : tie.Need-returns-3
 unfolding verdictOf
 returns-3 c =
     let d = c .before .before .before .before in
-    let r = d .before .before in
+    let r = d .before in
     table-accepted _ _ _ _
-    (counted _ _ _ _ _ (sym (ap readValues (r .operations .given .1)) ∙ r .before .before .read-graph .ensures) .verdict)
-    (sym (d .fault-for .ensures) ∙ ap verdictOf (c .before .before .enum-told .given .1)) (c .before .cycles .ensures)
+    (read-taken _ _ _ _ _ (sym (ap readValues (r .enum-told .given .1)) ∙ r .before .before .read-graph .ensures))
+    (sym (d .table-fault .ensures) ∙ ap verdictOf (c .before .before .enum-told2 .given .1)) (c .before .cycles .ensures)
     (c .row-count .ensures .right)
 
 pub check-spec : {M : Type 1} → statement M
@@ -40,7 +42,7 @@ check-spec =
     (λ c κs. search needs)
     (λ c. search needs)
     (λ c. search needs)
-    fault-for-requires
+    table-fault-requires
     (λ c. search needs)
     (λ c. search needs)
     (λ c κs. search needs)

@@ -25,25 +25,26 @@ returns-2 c =
 add-cycle-start : tie.Need-add-cycle-start
 unfolding cyclesOf byteAt
 add-cycle-start c =
-    let d = c .before .before .before in
+    let d = c .before .before .before .before in
     let e = d .before .before in
     let s = e .before .before .before in
     omega (
       arith,
       above-none (s .args .graph .now) (s .args .table .now) _ _ (s .args .cycle)
-          (sym (ap valuesOf (d .cycles .given .1)) ∙ e .check .ensures) (c .before .if1 .left),
+          (sym (ap valuesOf (d .cycles .given .1)) ∙ e .check .ensures) (c .before .before .if1 .left),
       e .before .shared-slice-known2 .given 3,
     )
 
 returns-3 : tie.Need-returns-3
 unfolding partOf
 returns-3 c =
-    let d = c .before .before .before .before in
+    let d = c .before .before .before .before .before in
+    let of = sym (c .before .before .edition .ensures .right) in
     rw (
-      of-cycle _ _ _ _ _ (sym (ap valuesOf (d .cycles .given .1)) ∙ d .before .before .check .ensures) (c .before .before .if1 .left),
-      ← c .before .cycle-start .ensures _,
+      of-cycle _ _ _ _ _ (sym (ap valuesOf (d .cycles .given .1)) ∙ d .before .before .check .ensures) (c .before .before .before .if1 .left),
+      ← c .before .cycle-start .ensures _ of,
       ← add-one _,
-      ← c .cycle-start2 .ensures _,
+      ← c .cycle-start2 .ensures _ of,
     ) refl
 
 pub span-of-spec : {M : Type 1} → statement M
@@ -55,6 +56,7 @@ span-of-spec =
     (λ c. search needs)
     returns
     returns-2
+    (λ c κs. search needs)
     (λ c κs. search needs)
     add-cycle-start
     (λ c κs. search needs)

@@ -1,9 +1,9 @@
 -- `reader::file_fault` meets its contract. Assumes nothing.
-use mathlib.Core.Path.{refl, sym, _∙_, ap}
+use mathlib.Core.Path.{refl, sym, _∙_}
 use borrow.Author.Needs.{needs}
+use Rattle.machine.proofs.Refusals.{otherwise}
 use Rattle.reader.specs.Reading.{verdictOf}
-use Rattle.reader.proofs.Chain.{otherwise}
-use Rattle.reader.proofs.Parts.{file-verdict, laid}
+use Rattle.reader.proofs.Verdicts.{file-verdict}
 use Rattle.reader.proofs.file_fault.Statement.{statement}
 use Rattle.reader.proofs.file_fault.Tie as tie
 
@@ -11,10 +11,6 @@ returns : tie.Need-returns
 unfolding verdictOf otherwise
 returns c =
     sym (file-verdict _ ∙ rw (← c .before .before .header .ensures, c .enum-told .given .1) refl)
-
-content-fault-requires : tie.Need-content-fault-requires
-unfolding verdictOf
-content-fault-requires c κs = laid _ (sym (c .before .before .header .ensures) ∙ ap verdictOf (c .enum-told2 .given .1))
 
 returns-2 : tie.Need-returns-2
 unfolding verdictOf otherwise
@@ -25,4 +21,4 @@ returns-2 c =
 pub file-fault-spec : {M : Type 1} → statement M
 file-fault-spec =
     tie.close
-    (tie.spec (λ c κs. search needs) (λ c. search needs) returns (λ c. search needs) content-fault-requires returns-2)
+    (tie.spec (λ c κs. search needs) (λ c. search needs) returns (λ c. search needs) (λ c κs. search needs) returns-2)

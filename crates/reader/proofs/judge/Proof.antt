@@ -1,21 +1,21 @@
 -- `reader::judge` meets its contract: the loop walks the table of refusals line by line. Assumes nothing.
 use Prim.Native.Nat.{_-_, zero-le}
 use native.Mathlib.Omega.{arith}
-use borrow.Author.Needs.{needs}
 use mathlib.Core.Path.{refl, sym, _∙_}
+use borrow.Author.Needs.{needs}
 use Rattle.machine.specs.Refusals.{judge}
-use Rattle.meaning.specs.Graph.{contentLines}
-use Rattle.reader.specs.Reading.{graphOf, verdictOf}
-use Rattle.reader.proofs.Chain.{Walked, otherwise, walk-on}
+use Rattle.machine.proofs.Refusals.{Walked, otherwise, walk-on}
+use Rattle.meaning.specs.Graph.{graphOf, contentLines}
+use Rattle.reader.specs.Reading.{verdictOf}
 use Rattle.reader.proofs.judge.Statement.{statement}
 use Rattle.reader.proofs.judge.Tie as tie
 
 abbrev Inv-lines : tie.InvT-lines
-Inv-lines limits operations controls arcs i₀ i =
-    Walked (contentLines (graphOf limits operations controls arcs)) 6 i
+Inv-lines edition limits operations controls arcs i₀ i =
+    Walked (contentLines (graphOf edition limits operations controls arcs)) 6 i
 
 abbrev μ-lines : tie.MeasureT-lines
-μ-lines limits operations controls arcs i₀ i = 6 - i
+μ-lines edition limits operations controls arcs i₀ i = 6 - i
 
 lines-holds : tie.Need-lines-holds Inv-lines μ-lines
 lines-holds c = record { within = zero-le; rest = refl }

@@ -3,33 +3,33 @@
 use native.Mathlib.Omega.{arith}
 use mathlib.Core.Path.{_≡_}
 use borrow.Author.Needs.{needs}
-use Rattle.meaning.specs.Graph.{contentLines, strayPath, path, producer, class, source, target, kind, joins, followsJoin, unordered, operationCount, classCount, controlCount, arcCount, operationBytes, arcBytes}
-use Rattle.reader.specs.Reading.{graphOf, lineOf, entry}
+use Rattle.meaning.specs.Graph.{contentLines, strayPath, path, producer, class, source, target, kind, joins, followsJoin, unordered, operationCount, classCount, controlCount, arcCount}
+use Rattle.reader.specs.Reading.{lineOf}
 use Rattle.reader.proofs.line.Statement.{statement}
 use Rattle.reader.proofs.line.Tie as tie
 
 returns : tie.Need-returns
-unfolding graphOf lineOf entry contentLines operationCount classCount class operationBytes
+unfolding lineOf contentLines operationCount classCount class
 returns c = rw (c .before .match .keys1) (c .classes .ensures)
 
 returns-2 : tie.Need-returns-2
-unfolding graphOf lineOf entry contentLines operationCount controlCount path operationBytes
+unfolding lineOf contentLines operationCount controlCount path
 returns-2 c = rw (c .before .match .keys2) (c .paths .ensures)
 
 returns-3 : tie.Need-returns-3
-unfolding graphOf lineOf entry contentLines operationCount controlCount producer operationBytes
+unfolding lineOf contentLines operationCount controlCount producer
 returns-3 c = rw (c .before .match .keys3) (c .producers .ensures)
 
 returns-4 : tie.Need-returns-4
-unfolding graphOf lineOf entry contentLines operationCount controlCount strayPath path producer operationBytes
+unfolding lineOf contentLines operationCount controlCount strayPath path producer
 returns-4 c = rw (c .before .match .keys4) (c .branches .ensures)
 
 returns-5 : tie.Need-returns-5
-unfolding graphOf lineOf entry contentLines arcCount operationCount controlCount source target kind joins followsJoin unordered operationBytes arcBytes
+unfolding lineOf contentLines arcCount operationCount controlCount source target kind joins followsJoin unordered
 returns-5 c = rw (c .before .match .keys5) (c .arcs-fit .ensures)
 
 returns-6 : tie.Need-returns-6
-unfolding graphOf lineOf entry contentLines arcCount controlCount source target path joins operationBytes arcBytes
+unfolding lineOf contentLines arcCount controlCount source target path joins
 returns-6 c =
     let i = c .before .before .before .before .before .before .args .i in
     let last : i ≡ 5 = omega arith in

@@ -1,80 +1,54 @@
 -- `steps::complete` meets its contract. The loop's invariant: the operations before j are done or excluded. Assumes nothing.
-use Prim.Native.Nat.{ℕ, _-_, _/_, _≤_}
+use Prim.Native.Nat.{ℕ, _-_}
 use native.Mathlib.Omega.{arith}
-use mathlib.Core.Path.{_≡_, sym, _∙_, ap}
+use mathlib.Core.Path.{_≡_, sym, _∙_}
 use mathlib.Core.Bool.{Bool, true, _||_}
 use mathlib.Core.List.{List}
-use borrow.Author.Needs.{needs}
+use borrow.Author.Count.{below-none, below-more}
 use borrow.Author.Tests.{not-true, not-false}
-use lib.ListN.{length}
-use Rattle.machine.specs.Sets.{has, allBelow}
-use Rattle.meaning.specs.Graph.{Graph, operationCount, operationBytes}
-use Rattle.meaning.specs.Steps.{excluded, complete}
-use Rattle.steps.specs.Parts.{graphOf}
-use Rattle.steps.proofs.Scan.{scan-start, scan-turn, scan-stop}
+use Rattle.machine.specs.Sets.{has}
+use Rattle.machine.proofs.Loops.{SoFar, all-broken, all-done}
+use Rattle.meaning.specs.Graph.{content, operationCount}
+use Rattle.meaning.specs.Steps.{State, excluded, complete}
+use Rattle.steps.specs.States.{stateOf}
+use borrow.Author.Needs.{needs}
 use Rattle.steps.proofs.complete.Statement.{statement}
 use Rattle.steps.proofs.complete.Tie as tie
 
 -- operation j is done or excluded
-abbrev finished : Graph → ℕ → ℕ → ℕ → Bool
-finished g done values j = has done j || excluded g done values j
+abbrev finished : List ℕ → State → ℕ → Bool
+finished file s j = has (s .done) j || excluded (content file) (s .done) (s .values) j
 
 abbrev Inv-loop : tie.InvT-loop
-Inv-loop operations controls done values resolved j₀ j =
-    (j ≤ length operations / 3)
-    × ((limits arcs : List ℕ) → allBelow j (finished (graphOf limits operations controls arcs) done values) ≡ true)
+Inv-loop graph s edition operations resolved n j₀ j = SoFar (finished graph (stateOf s)) true j
 
 abbrev μ-loop : tie.MeasureT-loop
-μ-loop operations controls done values resolved j₀ j = length operations / 3 - j
+μ-loop graph s edition operations resolved n j₀ j = n - j
 
 loop-holds : tie.Need-loop-holds Inv-loop μ-loop
-loop-holds c =
-    let a = c .before .before .before .args in (
-      omega arith,
-      λ limits arcs. scan-start
-          (finished (graphOf limits (a .operations .now) (a .controls .now) arcs) (a .done) (a .values)),
-    )
+loop-holds c = below-none _
+
+-- what the test of operation j says
+said : (c : tie.After-settled Inv-loop μ-loop) → c .settled .result ≡ finished (c .before .before .before .before .before .before .before .before .before .args .graph .now) (stateOf (c .before .before .before .before .before .before .before .before .before .args .s)) (c .before .before .loop .j)
+said c =
+    let g = content (c .before .before .before .before .before .before .before .before .before .args .graph .now) in
+    c .settled .ensures g (sym (c .before .before .before .before .before .before .before .edition .ensures .right)) (sym (c .before .before .before .before .before .before .operations .ensures .holds))
+    (c .before .before .before .before .produced .ensures g (sym (c .before .before .before .before .before .controls .ensures .holds)))
 
 returns : tie.Need-returns Inv-loop μ-loop
-unfolding complete operationCount operationBytes
-returns c limits arcs =
-    let a = c .before .before .before .before .before .before .before .args in
-    let g = graphOf limits (a .operations .now) (a .controls .now) arcs in
-    sym (scan-stop (c .before .before .before .loop .j) (finished g (a .done) (a .values)) (c .before .settled .result)
-    (c .before .settled .ensures limits (a .controls .now) arcs
-    (c .before .before .before .before .produced .ensures limits (a .operations .now) arcs))
-    (length (a .operations .now) / 3) (c .before .before .loop-test .taken)
-    (not-true (c .before .settled .result) (c .if1 .taken)))
+unfolding complete
+returns c =
+    let n = c .before .before .before .before .operation-count .ensures (content (c .before .before .before .before .before .before .before .before .before .before .args .graph .now)) (sym (c .before .before .before .before .before .before .before .before .edition .ensures .right)) (sym (c .before .before .before .before .before .before .before .operations .ensures .holds)) in
+    sym (all-broken _ _ (c .before .before .before .loop .j) (omega (arith, n)) (sym (said (c .before)) ∙ not-true _ (c .if1 .taken)))
 
 loop-again : tie.Need-loop-again Inv-loop μ-loop
-loop-again c = (
-  omega arith,
-  λ limits arcs. let a = c .before .before .before .before .before .before .before .args in
-      let g = graphOf limits (a .operations .now) (a .controls .now) arcs in
-      scan-turn (c .before .before .before .loop .j) (finished g (a .done) (a .values)) (c .before .settled .result)
-      (c .before .settled .ensures limits (a .controls .now) arcs
-      (c .before .before .before .before .produced .ensures limits (a .operations .now) arcs))
-      (c .before .before .before .loop .inv .1 limits arcs) (not-false (c .before .settled .result) (c .if1 .left)),
-)
+loop-again c = below-more _ _ (c .before .before .before .loop .inv) (sym (said (c .before)) ∙ not-false _ (c .if1 .left))
 
 returns-2 : tie.Need-returns-2 Inv-loop μ-loop
-unfolding complete operationCount operationBytes
-returns-2 c limits arcs =
-    let a = c .before .before .before .before .before .args in
-    let g = graphOf limits (a .operations .now) (a .controls .now) arcs in
-    sym (c .before .loop .inv .1 limits arcs) ∙ ap (λ (k : ℕ). allBelow k (finished g (a .done) (a .values))) (omega arith)
+unfolding complete
+returns-2 c =
+    let n = c .before .before .operation-count .ensures (content (c .before .before .before .before .before .before .before .before .args .graph .now)) (sym (c .before .before .before .before .before .before .edition .ensures .right)) (sym (c .before .before .before .before .before .operations .ensures .holds)) in
+    sym (all-done _ _ (c .before .loop .j) (omega (arith, n)) (c .before .loop .inv))
 
 pub complete-spec : {M : Type 1} → statement M
-complete-spec =
-    tie.close
-    (tie.spec
-    Inv-loop
-    μ-loop
-    (λ c κs. search needs)
-    loop-holds
-    (λ c κs. search needs)
-    returns
-    (λ c. search needs)
-    (λ c. search needs)
-    loop-again
-    returns-2)
+complete-spec = tie.close (tie.spec Inv-loop μ-loop (λ c κs. search needs) (λ c κs. search needs) (λ c κs. search needs) (λ c κs. search needs) (λ c κs. search needs) loop-holds (λ c κs. search needs) returns (λ c. search needs) (λ c. search needs) loop-again returns-2)

@@ -1,13 +1,19 @@
 -- `steps::lost` meets its contract. Assumes nothing.
+use Prim.Native.Nat.{_^_, _<_}
 use native.Mathlib.Omega.{arith}
+use Rattle.parts.specs.Fields.{literalsOf}
 use Rattle.steps.proofs.Literals.{lost-masks}
 use Rattle.steps.proofs.lost.Statement.{statement}
 use Rattle.steps.proofs.lost.Tie as tie
 
 returns : tie.Need-returns
+unfolding literalsOf
 returns c g done e =
-    let a = c .args in
-    lost-masks g done (a .values) (a .resolved) (a .positive) (a .negative) e (c .fits .values .fits) (omega arith) (omega arith)
+    let s = c .before .before in
+    let a = s .args in
+    let t : a .l .«on_true» < 2 ^ 32 = omega arith in
+    let f : a .l .«on_false» < 2 ^ 32 = omega arith in
+    lost-masks g done (a .values) (a .resolved) (a .l .«on_true») (a .l .«on_false») e (s .fits .values .fits) t f
 
 pub lost-spec : {M : Type 1} → statement M
 lost-spec = tie.close (tie.spec returns)

@@ -7,7 +7,7 @@ use borrow.Author.Needs.{needs}
 use lib.Bits.{bitAnd, bitOr, or-lt, or-shifted, and-mask}
 use lib.Pow.{pow-pos, pow-lt, shl-exact, shr-lt}
 use Rattle.masks.proofs.Bits.{or-one, one-bit}
-use Rattle.steps.specs.Masks.{raised}
+use Rattle.steps.specs.Moves.{raised}
 use Rattle.steps.proofs.raised.Statement.{statement}
 use Rattle.steps.proofs.raised.Tie as tie
 

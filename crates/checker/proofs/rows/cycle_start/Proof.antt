@@ -1,52 +1,52 @@
 -- `checker::rows::cycle_start` meets its contract. Assumes nothing.
-use Prim.Native.Nat.{suc, _-_, _≤_}
+use Prim.Native.Nat.{_-_, _≤_}
 use native.Mathlib.Nat.{add-zero}
 use native.Mathlib.Omega.{arith}
 use mathlib.Core.Path.{_≡_, refl, sym, _∙_}
 use mathlib.Core.Logic.{⊎-elim}
 use mathlib.Core.Bool.{true, false}
-use lib.Dec.{ltb}
 use borrow.Author.Needs.{needs}
 use borrow.Author.Tests.{lt-ltb, le-ltb}
 use Rattle.machine.specs.Sets.{countBelow}
-use Rattle.meaning.specs.Graph.{Graph}
-use Rattle.meaning.specs.TableFile.{tableIn}
-use Rattle.checker.proofs.RowLaws.{earlier-more, start-of-cycle}
+use Rattle.meaning.specs.Graph.{content}
+use Rattle.checker.specs.Rows.{OfEdition}
+use Rattle.checker.proofs.RowLaws.{counted, earlier-more, start-of-cycle}
 use Rattle.checker.proofs.rows.cycle_start.Statement.{statement}
 use Rattle.checker.proofs.rows.cycle_start.Tie as tie
 
 abbrev Inv-loop : tie.InvT-loop
-Inv-loop table t n earlier₀ i₀ earlier i =
-    (i ≤ n) × (earlier ≤ i) × ((g : Graph) → earlier ≡ countBelow i (λ j. ltb (tableIn g table .row (suc j) .cycle) t))
+Inv-loop edition table t n earlier₀ i₀ earlier i =
+    (i ≤ n) × (earlier ≤ i) × OfEdition edition (λ g. earlier ≡ counted g table t i)
 
 abbrev μ-loop : tie.MeasureT-loop
-μ-loop table t n earlier₀ i₀ earlier i = n - i
+μ-loop edition table t n earlier₀ i₀ earlier i = n - i
 
 loop-holds : tie.Need-loop-holds Inv-loop μ-loop
-unfolding countBelow
-loop-holds c = (search needs, search needs, λ g. refl)
+unfolding counted countBelow
+loop-holds c = (search needs, search needs, λ g of. refl)
 
 loop-again : tie.Need-loop-again Inv-loop μ-loop
 loop-again c =
     let at = c .before .before .row-at .ensures in
-    let counted = c .before .before .before .before .loop .inv .2 in
+    let before = c .before .before .before .before .loop .inv .2 in
     ⊎-elim
     (λ w. (
       search needs,
       omega arith,
-      λ g. w .1 ∙ earlier-more g _ _ _ _ _ true at (lt-ltb _ _ (w .0 .taken)) (counted g),
+      λ g of. w .1 ∙ earlier-more g _ _ _ _ _ true (at g of .right) (lt-ltb _ _ (w .0 .taken)) (before g of),
     ))
     (λ w. (
       search needs,
       omega arith,
-      λ g. w .1 ∙ sym (add-zero _) ∙ earlier-more g _ _ _ _ _ false at (le-ltb _ _ (w .0 .left)) (counted g),
+      λ g of. w .1 ∙ sym (add-zero _) ∙ earlier-more g _ _ _ _ _ false (at g of .right) (le-ltb _ _ (w .0 .left)) (before g of),
     ))
     (c .if1 .came)
 
 returns : tie.Need-returns Inv-loop μ-loop
-returns c file =
-    let l = c .before .loop in
-    start-of-cycle file _ _ _ _ _ (c .before .before .row-count .ensures .right) (l .inv .0) (c .loop-test .left) (l .inv .2)
+returns c file of =
+    let l = c .before .before .loop in
+    c .row-place .ensures
+    ∙ rw (← of) (start-of-cycle file _ _ _ _ _ (c .before .before .before .row-count .ensures .right) (l .inv .0) (c .before .loop-test .left) (l .inv .2 (content file) of))
 
 pub cycle-start-spec : {M : Type 1} → statement M
 cycle-start-spec =
@@ -61,6 +61,5 @@ cycle-start-spec =
     (λ c. search needs)
     (λ c. search needs)
     loop-again
-    (λ c. search needs)
-    (λ c. search needs)
+    (λ c κs. search needs)
     returns)

@@ -5,10 +5,10 @@ use Rattle.checker.proofs.rows.last_cycle.Statement.{statement}
 use Rattle.checker.proofs.rows.last_cycle.Tie as tie
 
 returns : tie.Need-returns
-returns c g = last-none g _ _ (c .before .row-count .ensures .right) (c .if1 .taken)
+returns c g of = last-none g _ _ (c .before .row-count .ensures .right) (c .if1 .taken)
 
 returns-2 : tie.Need-returns-2
-returns-2 c g = last-some g _ _ _ (c .before .before .row-count .ensures .right) (c .before .if1 .left) (c .row-at .ensures)
+returns-2 c g of = last-some g _ _ _ (c .before .before .row-count .ensures .right) (c .before .if1 .left) (c .row-at .ensures g of .right)
 
 pub last-cycle-spec : {M : Type 1} → statement M
 last-cycle-spec =

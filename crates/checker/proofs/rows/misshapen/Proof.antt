@@ -1,13 +1,13 @@
 -- `checker::rows::misshapen` meets its contract. Assumes nothing.
 use borrow.Author.Needs.{needs}
-use Rattle.meaning.specs.TableFile.{layoutLine, mostRows}
-use Rattle.checker.proofs.RowLaws.{row-start}
+use Rattle.meaning.specs.TableFile.{layoutLine}
+use Rattle.checker.proofs.RowLaws.{first-place}
 use Rattle.checker.proofs.rows.misshapen.Statement.{statement}
 use Rattle.checker.proofs.rows.misshapen.Tie as tie
 
 returns : tie.Need-returns
-unfolding layoutLine mostRows
-returns c = cc (row-start 1 (c .before .before .before .before .row-count .result))
+unfolding layoutLine
+returns c = cc (first-place (c .before .before .before .before .before .before .before .before .before .args .edition))
 
 pub misshapen-spec : {M : Type 1} → statement M
 misshapen-spec =
@@ -18,6 +18,8 @@ misshapen-spec =
     (λ c κs. search needs)
     (λ c κs. search needs)
     (λ c κs. search needs)
+    (λ c κs. search needs)
     (λ c. search needs)
-    (λ c. search needs)
+    (λ c κs. search needs)
+    (λ c κs. search needs)
     returns)

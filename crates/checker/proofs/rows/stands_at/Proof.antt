@@ -2,14 +2,13 @@
 use mathlib.Core.Path.{refl}
 use borrow.Author.Needs.{needs}
 use Rattle.machine.specs.Tables.{standsAt}
-use Rattle.meaning.specs.Steps.{same}
 use Rattle.checker.specs.Rows.{rowOf}
 use Rattle.checker.proofs.rows.stands_at.Statement.{statement}
 use Rattle.checker.proofs.rows.stands_at.Tie as tie
 
 returns : tie.Need-returns
-unfolding standsAt same rowOf
-returns c g = rw (← c .before .before .before .row-at .ensures .right g) refl
+unfolding standsAt rowOf
+returns c g of = rw (← c .before .before .row-at .ensures g of .right, c .same .ensures) refl
 
 pub stands-at-spec : {M : Type 1} → statement M
-stands-at-spec = tie.close (tie.spec (λ c κs. search needs) returns)
+stands-at-spec = tie.close (tie.spec (λ c κs. search needs) (λ c κs. search needs) returns)

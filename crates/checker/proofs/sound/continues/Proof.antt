@@ -1,59 +1,47 @@
 -- `checker::sound::continues` meets its contract. Assumes nothing.
-use Prim.Native.Nat.{ℕ, _-_, _≤_}
-use mathlib.Core.Path.{_≡_, refl, _∙_}
+use Prim.Native.Nat.{_-_}
+use native.Mathlib.Omega.{arith}
+use mathlib.Core.Path.{sym, _∙_}
 use mathlib.Core.Bool.{true}
-use mathlib.Core.List.{List}
+use borrow.Author.Count.{below-none, below-more}
 use borrow.Author.Needs.{needs}
 use borrow.Author.Tests.{not-true, not-false}
-use Rattle.machine.specs.Sets.{allBelow}
-use Rattle.meaning.specs.Graph.{controlCount}
-use Rattle.steps.specs.Parts.{graphOf}
-use Rattle.checker.specs.Rows.{goesOn}
-use Rattle.checker.proofs.Loops.{all-more, all-broken, all-done}
-use Rattle.checker.proofs.SoundLaws.{continues-row, goes-on}
+use Rattle.machine.proofs.Loops.{SoFar, all-broken, all-done}
+use Rattle.meaning.specs.Graph.{content}
+use Rattle.steps.specs.Forks.{fallen}
+use Rattle.checker.specs.Rows.{covered}
+use Rattle.checker.proofs.SoundLaws.{continues-row}
 use Rattle.checker.proofs.sound.continues.Statement.{statement}
 use Rattle.checker.proofs.sound.continues.Tie as tie
 
 abbrev Inv-loop : tie.InvT-loop
-Inv-loop operations controls table i p outcomes w₀ w =
-    (w ≤ outcomes)
-    × ((limits arcs : List ℕ) → allBelow w (goesOn (graphOf limits operations controls arcs) table p) ≡ true)
+Inv-loop graph table i t fork words w₀ w = SoFar (λ v. covered (content graph) table t (fallen fork v)) true w
 
 abbrev μ-loop : tie.MeasureT-loop
-μ-loop operations controls table i p outcomes w₀ w = outcomes - w
-
-loop-holds : tie.Need-loop-holds Inv-loop μ-loop
-unfolding allBelow
-loop-holds c = (search needs, λ limits arcs. refl)
+μ-loop graph table i t fork words w₀ w = words - w
 
 returns : tie.Need-returns Inv-loop μ-loop
-unfolding controlCount
-returns c limits arcs =
-    let g = graphOf limits _ _ arcs in
-    let at = c .before .before .before .before .before .before .before .row-at .ensures in
-    continues-row g _ _ _ at _
-    (all-broken _ _ _ _ (c .before .before .before .before .before .before .word-count .ensures)
-    (c .before .before .before .before .loop-test .taken)
-    (goes-on g _ _ _ at _ _ _ _ (c .before .before .before .next .ensures limits arcs) (c .before .covered .ensures limits arcs)
-    ∙ not-true _ (c .if1 .taken)))
+returns c =
+    let l = c .before .before .before .before in
+    let n = l .before in
+    let d = n .before .before .before in
+    continues-row _ _ _ _ (d .row-in .ensures .right) (d .before .before .before .pre .0) (omega arith)
+    (n .before .fork-of .ensures) _
+    (sym (all-broken _ _ (l .loop .w) (omega (arith, n .word-count .ensures))
+    (rw (← c .before .before .fallen .ensures) (sym (c .before .covered .ensures) ∙ not-true _ (c .if1 .taken)))))
 
 loop-again : tie.Need-loop-again Inv-loop μ-loop
-loop-again c = (
-  search needs,
-  λ limits arcs.
-      let d = c .before .before .before in
-      let l = d .before .before in
-      all-more _ _ (l .loop .inv .1 limits arcs)
-      (goes-on (graphOf limits _ _ arcs) _ _ _ (l .before .before .row-at .ensures) _ _ _ _ (d .next .ensures limits arcs)
-      (c .before .covered .ensures limits arcs) ∙ not-false _ (c .if1 .left)),
-)
+loop-again c =
+    below-more _ _ (c .before .before .before .before .loop .inv)
+    (rw (← c .before .before .fallen .ensures) (sym (c .before .covered .ensures) ∙ not-false _ (c .if1 .left)))
 
 returns-2 : tie.Need-returns-2 Inv-loop μ-loop
-unfolding controlCount
-returns-2 c limits arcs =
-    continues-row (graphOf limits _ _ arcs) _ _ _ (c .before .before .before .row-at .ensures) _
-    (all-done _ _ _ _ (c .before .before .word-count .ensures) (c .before .loop .inv .0) (c .loop-test .left)
-    (c .before .loop .inv .1 limits arcs))
+returns-2 c =
+    let n = c .before .before in
+    let d = n .before .before .before in
+    continues-row _ _ _ _ (d .row-in .ensures .right) (d .before .before .before .pre .0) (omega arith)
+    (n .before .fork-of .ensures) _
+    (sym (all-done _ _ _ (omega (arith, n .word-count .ensures)) (c .before .loop .inv)))
 
 pub continues-spec : {M : Type 1} → statement M
 continues-spec =
@@ -62,10 +50,11 @@ continues-spec =
     Inv-loop
     μ-loop
     (λ c κs. search needs)
-    (λ c κs. search needs)
-    loop-holds
-    (λ c κs. search needs)
     (λ c. search needs)
+    (λ c κs. search needs)
+    (λ c κs. search needs)
+    (λ c. below-none _)
+    (λ c κs. search needs)
     (λ c κs. search needs)
     returns
     (λ c. search needs)

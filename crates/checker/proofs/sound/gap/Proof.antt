@@ -1,65 +1,55 @@
 -- `checker::sound::gap` meets its contract. Assumes nothing.
-use Prim.Native.Nat.{ℕ, suc, _-_, _≤_}
+use Prim.Native.Nat.{suc, _-_}
 use native.Mathlib.Numerals.{add-one}
 use native.Mathlib.Omega.{arith}
-use mathlib.Core.Path.{_∙_}
-use mathlib.Core.List.{List}
+use mathlib.Core.Path.{sym, _∙_}
+use mathlib.Core.Bool.{false}
+use borrow.Author.Count.{below-none, below-more}
 use borrow.Author.Needs.{needs}
+use Rattle.machine.proofs.Loops.{SoFar}
+use Rattle.machine.proofs.Refusals.{refused-at, taken-after}
+use Rattle.meaning.specs.Graph.{content}
 use Rattle.reader.specs.Reading.{verdictOf}
-use Rattle.steps.specs.Parts.{graphOf}
 use Rattle.checker.specs.Rows.{gapLine}
-use Rattle.checker.proofs.Lines.{ClearTo, clear-none, clear-more, clear-refused, clear-taken}
 use Rattle.checker.proofs.SoundLaws.{gap-start, gap-fault}
 use Rattle.checker.proofs.sound.gap.Statement.{statement}
 use Rattle.checker.proofs.sound.gap.Tie as tie
 
 abbrev Inv-loop : tie.InvT-loop
-Inv-loop operations controls table n i₀ i =
-    (i ≤ n) × ((limits arcs : List ℕ) → ClearTo (gapLine (graphOf limits operations controls arcs) table) (suc i))
+Inv-loop graph table n i₀ i = SoFar (gapLine (content graph) table .fault) false (suc i)
 
 abbrev μ-loop : tie.MeasureT-loop
-μ-loop operations controls table n i₀ i = n - i
+μ-loop graph table n i₀ i = n - i
 
 returns : tie.Need-returns Inv-loop μ-loop
 unfolding verdictOf gapLine
-returns c limits arcs =
-    let g = graphOf limits _ _ arcs in
-    clear-refused (gapLine g _) 0 (clear-none (gapLine g _)) (omega arith) (gap-start g _ _ (c .before .covered .ensures limits arcs) ∙ c .if1 .taken)
+returns c =
+    sym (refused-at (gapLine _ _) 0 (below-none _) (omega arith)
+    (gap-start _ _ _ _ (c .before .before .start .ensures) (c .before .covered .ensures) ∙ c .if1 .taken))
 
 loop-holds : tie.Need-loop-holds Inv-loop μ-loop
-loop-holds c = (
-  search needs,
-  λ limits arcs.
-      let g = graphOf limits _ _ arcs in
-      clear-more (gapLine g _) 0 (clear-none (gapLine g _)) (gap-start g _ _ (c .before .before .covered .ensures limits arcs) ∙ c .before .if1 .left),
-)
+loop-holds c =
+    let d = c .before .before in
+    below-more _ 0 (below-none _) (gap-start _ _ _ _ (d .before .start .ensures) (d .covered .ensures) ∙ c .before .if1 .left)
 
 returns-2 : tie.Need-returns-2 Inv-loop μ-loop
 unfolding verdictOf gapLine
-returns-2 c limits arcs =
-    let l = c .before .before .before .loop in
-    let g = graphOf limits _ _ arcs in
-    rw (add-one (l .i))
-    (clear-refused (gapLine g _) (suc (l .i)) (l .inv .1 limits arcs)
-    (omega (arith, c .before .before .before .before .row-count .ensures .right, c .before .before .loop-test .taken))
-    (gap-fault g _ _ _ (c .before .continues .ensures limits arcs) ∙ c .if2 .taken))
+returns-2 c =
+    let l = c .before .before .before in
+    rw (add-one (l .loop .i))
+    (sym (refused-at (gapLine _ _) (suc (l .loop .i)) (l .loop .inv) (omega (arith, l .before .row-count .ensures .right))
+    (gap-fault _ _ _ _ (c .before .continues .ensures) ∙ c .if2 .taken)))
 
 loop-again : tie.Need-loop-again Inv-loop μ-loop
-loop-again c = (
-  search needs,
-  λ limits arcs.
-      let l = c .before .before .before .loop in
-      let g = graphOf limits _ _ arcs in
-      rw (add-one (l .i))
-      (clear-more (gapLine g _) (suc (l .i)) (l .inv .1 limits arcs)
-      (gap-fault g _ _ _ (c .before .continues .ensures limits arcs) ∙ c .if2 .left)),
-)
+loop-again c =
+    let l = c .before .before .before .loop in
+    rw (add-one (l .i), ← add-one (suc (l .i)))
+    (below-more _ _ (l .inv) (gap-fault _ _ _ _ (c .before .continues .ensures) ∙ c .if2 .left))
 
 returns-3 : tie.Need-returns-3 Inv-loop μ-loop
 unfolding verdictOf gapLine
-returns-3 c limits arcs =
-    clear-taken (gapLine (graphOf limits _ _ arcs) _) (suc (c .before .loop .i)) (c .before .loop .inv .1 limits arcs)
-    (omega (arith, c .before .before .row-count .ensures .right, c .loop-test .left))
+returns-3 c =
+    sym (taken-after (gapLine _ _) (suc (c .before .loop .i)) (c .before .loop .inv) (omega (arith, c .before .before .row-count .ensures .right)))
 
 pub gap-spec : {M : Type 1} → statement M
 gap-spec =
@@ -67,6 +57,7 @@ gap-spec =
     (tie.spec
     Inv-loop
     μ-loop
+    (λ c κs. search needs)
     (λ c κs. search needs)
     returns
     (λ c κs. search needs)

@@ -1,50 +1,37 @@
 -- `checker::sound::leads` meets its contract. Assumes nothing.
-use Prim.Native.Nat.{ℕ, _-_, _≤_}
-use mathlib.Core.Path.{_≡_, refl}
+use Prim.Native.Nat.{_-_}
+use native.Mathlib.Omega.{arith}
+use mathlib.Core.Path.{sym, _∙_}
 use mathlib.Core.Bool.{false}
-use mathlib.Core.List.{List}
+use borrow.Author.Count.{below-none, below-more}
 use borrow.Author.Needs.{needs}
-use Rattle.machine.specs.Sets.{anyBelow}
-use Rattle.meaning.specs.Graph.{controlCount}
+use Rattle.machine.proofs.Loops.{SoFar, any-found, any-none}
 use Rattle.meaning.specs.Steps.{same}
-use Rattle.steps.specs.Parts.{graphOf}
-use Rattle.checker.specs.Rows.{stateOf, stateAfter}
-use Rattle.checker.proofs.Loops.{any-more, any-found, any-none}
+use Rattle.steps.specs.States.{stateOf}
+use Rattle.steps.specs.Forks.{fallen}
 use Rattle.checker.proofs.sound.leads.Statement.{statement}
 use Rattle.checker.proofs.sound.leads.Tie as tie
 
 abbrev Inv-loop : tie.InvT-loop
-Inv-loop operations controls q done values words w₀ w =
-    (w ≤ words)
-    × ((limits arcs : List ℕ) → anyBelow w (λ v. same (stateAfter (graphOf limits operations controls arcs) q v) (stateOf done values)) ≡ false)
+Inv-loop graph fork s words w₀ w = SoFar (λ v. same (fallen fork v) (stateOf s)) false w
 
 abbrev μ-loop : tie.MeasureT-loop
-μ-loop operations controls q done values words w₀ w = words - w
-
-loop-holds : tie.Need-loop-holds Inv-loop μ-loop
-unfolding anyBelow
-loop-holds c = (search needs, λ limits arcs. refl)
+μ-loop graph fork s words w₀ w = words - w
 
 returns : tie.Need-returns Inv-loop μ-loop
-unfolding same controlCount
-returns c limits arcs =
-    let d = c .before .before .before in
+returns c =
+    let d = c .before .before in
     let l = d .before .before in
-    any-found _ _ _ _ (l .before .word-count .ensures) (d .before .loop-test .taken)
-    (rw (← d .next .ensures limits arcs) (c .if1 .taken))
+    sym (any-found _ _ (l .loop .w) (omega (arith, l .before .word-count .ensures))
+    (rw (← d .fallen .ensures) (sym (c .before .same .ensures) ∙ c .if1 .taken)))
 
 loop-again : tie.Need-loop-again Inv-loop μ-loop
-unfolding same
 loop-again c =
-    let d = c .before .before .before in
-    let l = d .before .before .loop in
-    (search needs, λ limits arcs. any-more _ _ (l .inv .1 limits arcs) (rw (← d .next .ensures limits arcs) (c .if1 .left)))
+    let d = c .before .before in
+    below-more _ _ (d .before .before .loop .inv) (rw (← d .fallen .ensures) (sym (c .before .same .ensures) ∙ c .if1 .left))
 
 returns-2 : tie.Need-returns-2 Inv-loop μ-loop
-unfolding controlCount
-returns-2 c limits arcs =
-    let l = c .before .loop in
-    any-none _ _ _ _ (c .before .before .word-count .ensures) (l .inv .0) (c .loop-test .left) (l .inv .1 limits arcs)
+returns-2 c = sym (any-none _ _ _ (omega (arith, c .before .before .word-count .ensures)) (c .before .loop .inv))
 
 pub leads-spec : {M : Type 1} → statement M
 leads-spec =
@@ -53,7 +40,8 @@ leads-spec =
     Inv-loop
     μ-loop
     (λ c κs. search needs)
-    loop-holds
+    (λ c. below-none _)
+    (λ c κs. search needs)
     (λ c κs. search needs)
     returns
     (λ c. search needs)

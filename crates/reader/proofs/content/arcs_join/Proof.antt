@@ -1,43 +1,49 @@
 -- `reader::content::arcs_join` meets its contract. Assumes nothing.
-use Prim.Native.Nat.{_-_, _/_}
-use mathlib.Core.Path.{sym, _∙_}
+use Prim.Native.Nat.{_-_, _≤_}
+use native.Mathlib.Omega.{arith}
+use mathlib.Core.Path.{_≡_, refl, sym, _∙_}
+use mathlib.Core.Bool.{false}
 use mathlib.Core.List.{[]}
-use lib.ListN.{length}
+use borrow.Author.Count.{below-none, below-more}
 use borrow.Author.Needs.{needs}
-use Rattle.meaning.specs.Graph.{contentLines, arcCount, arcBytes}
-use Rattle.reader.specs.Reading.{faultAt, verdictOf, graphOf, lineOf}
-use Rattle.reader.proofs.Chain.{Clear, clear-start, clear-next, refused-at, taken-after}
+use Rattle.machine.proofs.Loops.{SoFar}
+use Rattle.machine.proofs.Refusals.{refused-at, taken-after}
+use Rattle.meaning.specs.Graph.{graphOf, arcCount, contentLines}
+use Rattle.reader.specs.Reading.{faultAt, verdictOf, lineOf}
 use Rattle.reader.proofs.content.arcs_join.Statement.{statement}
 use Rattle.reader.proofs.content.arcs_join.Tie as tie
 
 abbrev Inv-arcs : tie.InvT-arcs
-Inv-arcs operations controls arcs a₀ a = Clear (length arcs / 5) (faultAt 11 (graphOf [] operations controls arcs)) a
+Inv-arcs edition operations controls arcs count a₀ a =
+    let g = graphOf edition [] operations controls arcs in
+    (count ≡ arcCount g) × (a ≤ count) × SoFar (faultAt 11 g) false a
 
 abbrev μ-arcs : tie.MeasureT-arcs
-μ-arcs operations controls arcs a₀ a = length arcs / 5 - a
+μ-arcs edition operations controls arcs count a₀ a = count - a
+
+arcs-holds : tie.Need-arcs-holds Inv-arcs μ-arcs
+arcs-holds c = (c .arc-count .ensures _ refl, search needs, below-none _)
 
 arcs-again : tie.Need-arcs-again Inv-arcs μ-arcs
 arcs-again c =
-    clear-next _ _ _ (c .before .before .before .arcs .inv) (c .before .before .if1 .left)
-    (sym (c .before .unjoined .ensures) ∙ c .if2 .left)
+    let i = c .before .before .before .arcs .inv in
+    (i .0, search needs, below-more _ _ (i .2) (sym (c .before .unjoined .ensures) ∙ c .if2 .left))
 
 returns : tie.Need-returns Inv-arcs μ-arcs
-unfolding verdictOf lineOf contentLines arcCount arcBytes graphOf
-returns c = sym (taken-after _ _ (c .before .arcs .inv) (c .if1 .taken))
+unfolding verdictOf lineOf contentLines
+returns c = sym (taken-after _ _ (c .before .arcs .inv .2) (omega arith))
 
 returns-2 : tie.Need-returns-2 Inv-arcs μ-arcs
-unfolding verdictOf lineOf contentLines arcCount arcBytes graphOf
+unfolding verdictOf lineOf contentLines
 returns-2 c =
-    sym (refused-at _ _ (c .before .before .before .arcs .inv) (c .before .before .if1 .left)
-    (sym (c .before .unjoined .ensures) ∙ c .if2 .taken))
+    sym (refused-at _ _ (c .before .before .before .arcs .inv .2) (omega arith) (sym (c .before .unjoined .ensures) ∙ c .if2 .taken))
 
 pub arcs-join-spec : {M : Type 1} → statement M
-arcs-join-spec =
-    tie.close
-    (tie.spec
+arcs-join-spec = tie.close (tie.spec
     Inv-arcs
     μ-arcs
-    (λ c. clear-start _ _)
+    (λ c κs. search needs)
+    arcs-holds
     (λ c κs. search needs)
     (λ c. search needs)
     (λ c. search needs)

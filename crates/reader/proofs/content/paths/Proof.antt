@@ -1,43 +1,49 @@
 -- `reader::content::paths` meets its contract. Assumes nothing.
-use Prim.Native.Nat.{_-_, _/_}
-use mathlib.Core.Path.{sym, _∙_}
+use Prim.Native.Nat.{_-_, _≤_}
+use native.Mathlib.Omega.{arith}
+use mathlib.Core.Path.{_≡_, refl, sym, _∙_}
+use mathlib.Core.Bool.{false}
 use mathlib.Core.List.{[]}
-use lib.ListN.{length}
+use borrow.Author.Count.{below-none, below-more}
 use borrow.Author.Needs.{needs}
-use Rattle.meaning.specs.Graph.{contentLines, operationCount, operationBytes}
-use Rattle.reader.specs.Reading.{faultAt, verdictOf, graphOf, lineOf}
-use Rattle.reader.proofs.Chain.{Clear, clear-start, clear-next, refused-at, taken-after}
+use Rattle.machine.proofs.Loops.{SoFar}
+use Rattle.machine.proofs.Refusals.{refused-at, taken-after}
+use Rattle.meaning.specs.Graph.{graphOf, operationCount, contentLines}
+use Rattle.reader.specs.Reading.{faultAt, verdictOf, lineOf}
 use Rattle.reader.proofs.content.paths.Statement.{statement}
 use Rattle.reader.proofs.content.paths.Tie as tie
 
 abbrev Inv-operations : tie.InvT-operations
-Inv-operations operations controls j₀ j = Clear (length operations / 3) (faultAt 7 (graphOf [] operations controls [])) j
+Inv-operations edition operations controls count j₀ j =
+    let g = graphOf edition [] operations controls [] in
+    (count ≡ operationCount g) × (j ≤ count) × SoFar (faultAt 7 g) false j
 
 abbrev μ-operations : tie.MeasureT-operations
-μ-operations operations controls j₀ j = length operations / 3 - j
+μ-operations edition operations controls count j₀ j = count - j
+
+operations-holds : tie.Need-operations-holds Inv-operations μ-operations
+operations-holds c = (c .operation-count .ensures _ refl refl, search needs, below-none _)
 
 operations-again : tie.Need-operations-again Inv-operations μ-operations
 operations-again c =
-    clear-next _ _ _ (c .before .before .before .operations .inv) (c .before .before .if1 .left)
-    (sym (c .before .mispathed .ensures) ∙ c .if2 .left)
+    let i = c .before .before .before .operations .inv in
+    (i .0, search needs, below-more _ _ (i .2) (sym (c .before .mispathed .ensures) ∙ c .if2 .left))
 
 returns : tie.Need-returns Inv-operations μ-operations
-unfolding verdictOf lineOf contentLines operationCount operationBytes graphOf
-returns c = sym (taken-after _ _ (c .before .operations .inv) (c .if1 .taken))
+unfolding verdictOf lineOf contentLines
+returns c = sym (taken-after _ _ (c .before .operations .inv .2) (omega arith))
 
 returns-2 : tie.Need-returns-2 Inv-operations μ-operations
-unfolding verdictOf lineOf contentLines operationCount operationBytes graphOf
+unfolding verdictOf lineOf contentLines
 returns-2 c =
-    sym (refused-at _ _ (c .before .before .before .operations .inv) (c .before .before .if1 .left)
-    (sym (c .before .mispathed .ensures) ∙ c .if2 .taken))
+    sym (refused-at _ _ (c .before .before .before .operations .inv .2) (omega arith) (sym (c .before .mispathed .ensures) ∙ c .if2 .taken))
 
 pub paths-spec : {M : Type 1} → statement M
-paths-spec =
-    tie.close
-    (tie.spec
+paths-spec = tie.close (tie.spec
     Inv-operations
     μ-operations
-    (λ c. clear-start _ _)
+    (λ c κs. search needs)
+    operations-holds
     (λ c κs. search needs)
     (λ c. search needs)
     (λ c. search needs)

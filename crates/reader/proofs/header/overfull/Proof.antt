@@ -1,20 +1,36 @@
 -- `reader::header::overfull` meets its contract. Assumes nothing.
 use mathlib.Core.Path.{refl}
 use borrow.Author.Needs.{needs}
-use Rattle.meaning.specs.Graph.{fileLines, mostOperations, mostClasses, mostControls, mostArcs, operationsOf, classesOf, controlsOf, arcsOf}
+use Rattle.meaning.specs.Graph.{fileLines, content, operationsOf, classesOf, controlsOf, arcsOf}
 use Rattle.reader.specs.Reading.{lineOf}
 use Rattle.reader.proofs.header.overfull.Statement.{statement}
 use Rattle.reader.proofs.header.overfull.Tie as tie
 
 returns : tie.Need-returns
-unfolding fileLines mostOperations mostClasses mostControls mostArcs operationsOf classesOf controlsOf arcsOf lineOf
-returns c = rw (
-  c .pair .ensures .right,
-  c .before .byte3 .ensures .right,
-  c .before .before .byte2 .ensures .right,
-  c .before .before .before .byte .ensures .right,
-) refl
+unfolding fileLines content operationsOf classesOf controlsOf arcsOf lineOf
+returns c =
+    let d = c .before .before .before .before in
+    rw (
+      c .pair .ensures .right,
+      c .before .most-arcs .ensures,
+      c .before .before .byte3 .ensures .right,
+      c .before .before .before .most-controls .ensures,
+      d .byte2 .ensures .right,
+      d .before .most-classes .ensures,
+      d .before .before .byte .ensures .right,
+      d .before .before .before .most-operations .ensures,
+      d .before .before .before .before .edition .ensures .right,
+    ) refl
 
 pub overfull-spec : {M : Type 1} → statement M
-overfull-spec =
-    tie.close (tie.spec (λ c κs. search needs) (λ c κs. search needs) (λ c κs. search needs) (λ c κs. search needs) returns)
+overfull-spec = tie.close (tie.spec
+    (λ c κs. search needs)
+    (λ c κs. search needs)
+    (λ c κs. search needs)
+    (λ c κs. search needs)
+    (λ c κs. search needs)
+    (λ c κs. search needs)
+    (λ c κs. search needs)
+    (λ c κs. search needs)
+    (λ c κs. search needs)
+    returns)

@@ -1,6 +1,6 @@
 -- `reader::sets::lacks` meets its contract. Assumes nothing.
 use borrow.Author.Needs.{needs}
-use Rattle.reader.specs.Reading.{literalsOf}
+use Rattle.parts.specs.Fields.{literalsOf}
 use Rattle.reader.proofs.SetLaws.{lacks-sides}
 use Rattle.reader.proofs.sets.lacks.Statement.{statement}
 use Rattle.reader.proofs.sets.lacks.Tie as tie

@@ -2,7 +2,7 @@
 use mathlib.Core.Path.{refl}
 use borrow.Author.Needs.{needs}
 use Rattle.meaning.specs.Graph.{names}
-use Rattle.reader.specs.Reading.{literalsOf}
+use Rattle.parts.specs.Fields.{literalsOf}
 use Rattle.reader.proofs.sets.names.Statement.{statement}
 use Rattle.reader.proofs.sets.names.Tie as tie
 

@@ -1,294 +1,226 @@
--- `scheduler::rows::cycle` meets its contract. The states of the words passed have gone on, and their rows are laid.
--- Assumes nothing.
-use Prim.Native.Nat.{ℕ, suc, _+_, _-_, _^_, _≤_, _<_, zero-le}
-use native.Mathlib.Nat.{lt-of-lt-of-le, le-antisymm, not-suc-le-zero}
+-- `scheduler::rows::cycle` meets its contract. The loop's invariant: the words before `word` have passed. Assumes nothing.
+use Prim.Native.Nat.{ℕ, _+_, _-_, _^_, _≤_, _<_, zero-le}
+use native.Mathlib.Nat.{add-sub-cancel, lt-of-lt-of-le, le-antisymm, not-suc-le-zero}
+use native.Mathlib.Numerals.{add-one}
 use native.Mathlib.Omega.{arith}
-use mathlib.Core.Path.{_≡_, sym, _∙_, ap, ap₂, subst}
-use mathlib.Core.Bool.{Bool, cond, not}
-use mathlib.Core.List.{[], _∷_}
-use lib.ListN.{length, getD}
-use lib.Dec.{T, eqb}
+use mathlib.Core.Path.{_≡_, sym, _∙_, ap, subst}
+use mathlib.Core.Logic.{⊎-elim}
+use mathlib.Core.Bool.{Bool, true, not}
+use mathlib.Core.List.{List}
+use borrow.Author.Tests.{not-true, not-false}
+use lib.Dec.{T}
 use lib.Pow.{pow-mono}
-use borrow.Author.Tests.{eq-eqb}
 use Rattle.machine.specs.Sets.{listBelow}
 use Rattle.machine.proofs.Truth.{of-true, of-false}
 use Rattle.machine.proofs.Sets.{list-length}
-use Rattle.meaning.specs.Graph.{Graph, controlCount}
+use Rattle.meaning.specs.Graph.{Graph, content, controlCount}
 use Rattle.meaning.specs.Steps.{State, complete, after}
-use Rattle.steps.specs.Parts.{graphOf}
-use Rattle.scheduler.specs.Rows.{Choosing, Meets, stateOf, rowOf, cycleRows, Laid, Room}
+use Rattle.meaning.specs.TableFile.{mostRows}
+use Rattle.meaning.proofs.Taken.{few-controls}
+use Rattle.steps.specs.declared.Fork.{Fork}
+use Rattle.steps.specs.declared.State.{State as Fields}
+use Rattle.steps.specs.States.{stateOf}
+use Rattle.steps.specs.Forks.{forkOf, fallen}
+use Rattle.steps.proofs.After.{words-all, fallen-after}
+use Rattle.scheduler.specs.Rows.{Choosing, stateAt, rowOf, cycleRows, Laid, Room}
 use Rattle.scheduler.proofs.SearchLaws.{reachable-values}
-use Rattle.scheduler.proofs.RowLaws.{Going, here, going-stays, going-on, row-none, row-here, row-one, laid-none, laid-length, turn-room, turn-laid, met-choosing, shifted}
+use Rattle.scheduler.proofs.RowLaws.{here, Passing, passing-stays, passing-room, passing-on, row-one, laid-none, laid-length, met-choosing}
+use borrow.Author.Needs.{needs}
 use Rattle.scheduler.proofs.rows.cycle.Statement.{statement}
 use Rattle.scheduler.proofs.rows.cycle.Tie as tie
 
 abbrev Inv-loop : tie.InvT-loop
-Inv-loop limits operations controls arcs classes slots used past done₀ values₀ table₀ writing rows rows₀ word₀ done values table rows' word =
-    let g = graphOf limits operations controls arcs in
-    (word ≤ 2 ^ length controls) × Going g past word done values × Laid g writing table₀ table rows rows' (listBelow word (rowOf g past))
+Inv-loop graph slots used table₀ writing edition words next rows₀ states₀ word₀ table rows states word =
+    (word ≤ words) × Passing (content graph) (next - 1) word writing table₀ table rows₀ rows states
 
 abbrev μ-loop : tie.MeasureT-loop
-μ-loop limits operations controls arcs classes slots used past done₀ values₀ table₀ writing rows rows₀ word₀ done values table rows' word =
-    2 ^ length controls - word
+μ-loop graph slots used table₀ writing edition words next rows₀ states₀ word₀ table rows states word = words - word
 
-abbrev Entry : Type 0
-Entry = tie.Start Inv-loop μ-loop
+module _ (entry : tie.Start Inv-loop μ-loop) where
+  abbrev graph : Graph
+  graph = content (entry .args .graph .now)
 
--- the graph, how many controls it has, and the room
-abbrev graph : Entry → Graph
-graph e = graphOf (e .args .limits .now) (e .args .operations .now) (e .args .controls .now) (e .args .arcs .now)
+  -- the words below `word` have passed in the cycle after t cycles
+  abbrev PassedTo : ℕ → ℕ → List ℕ → ℕ → List Fields → Type 0
+  PassedTo t word table rows states = Passing graph t word (entry .args .writing) (entry .args .table .now) table (entry .args .p .rows) rows states
 
-few : (e : Entry) → length (e .args .controls .now) ≤ 4
-unfolding controlCount
-few e = e .pre .planning .accepted .controls
+  -- that cycle is the one before the next
+  past : entry .args .p .past + 1 - 1 ≡ entry .args .p .past
+  past = add-sub-cancel (entry .args .p .past) 1
 
--- the word is one of the words, of which there are at most 16
-module _ (c : tie.In-loop Inv-loop μ-loop) where
-  abbrev entry : Entry
-  entry = c .before .before .before .before .before .before .before .before
-
-  in-words : c .before .loop .word < 2 ^ length (entry .args .controls .now)
-  in-words = subst (λ (k : ℕ). c .before .loop .word < k) (shifted (length (entry .args .controls .now)) (few entry)) (c .loop-test .taken)
-
-  small : c .before .loop .word < 16
-  small = lt-of-lt-of-le in-words (pow-mono (few entry))
-
--- an unfinished state goes on by its chosen step
-module _ (c : tie.Else1 Inv-loop μ-loop) where
-  abbrev turn : tie.In-loop Inv-loop μ-loop
-  turn = c .before .before .before .before
-
-  abbrev state : State
-  state = stateOf (turn .before .loop .done) (turn .before .loop .values) (turn .before .loop .word)
-
-  left : T (not (complete (graph (entry turn)) (state .done) (state .values)))
-  left = of-false (sym (c .before .complete .ensures (entry turn .args .limits .now) (entry turn .args .arcs .now)) ∙ c .if1 .left)
-
-  choosing : Choosing (graph (entry turn)) (entry turn .args .slots .now) (entry turn .args .used) state
-  unfolding controlCount
-  choosing =
-      let l = turn .before .loop in
-      let a = entry turn .args in
-      let g = graph (entry turn) in
-      let at = here g (a .past) (l .word) (l .done) (l .values) (l .inv .1) (in-words turn) in
-      subst (Choosing g (a .slots .now) (a .used)) (sym at)
-      (met-choosing g (a .slots .now) (a .used) (entry turn .pre .planning) (a .past) (l .word) (in-words turn)
-      (subst (λ (s : State). T (not (complete g (s .done) (s .values)))) at left))
-
--- and its row
-row : (c : tie.After-chosen Inv-loop μ-loop)
-    → let l = turn (c .before) .before .loop in
-    let a = entry (turn (c .before)) .args in
-    rowOf (graph (entry (turn (c .before)))) (a .past) (l .word)
-    ≡ cond (eqb (getD (l .values) (l .word) 0) (l .word)) (record { cycle = a .past + 1; state = state (c .before); step = c .chosen .result } ∷ []) []
-unfolding controlCount
-row c =
-    let l = turn (c .before) .before .loop in
-    let a = entry (turn (c .before)) .args in
-    row-here (graph (entry (turn (c .before)))) (a .past) (l .word) (l .done) (l .values) (l .inv .1) (in-words (turn (c .before))) (c .chosen .result)
-    (left (c .before)) (c .chosen .ensures)
+add-next : tie.Need-add-next Inv-loop μ-loop
+unfolding mostRows
+add-next c = omega (arith, c .before .before .before .before .before .before .pre .early)
 
 loop-holds : tie.Need-loop-holds Inv-loop μ-loop
-unfolding listBelow controlCount
+unfolding listBelow
 loop-holds c =
-    let start = c .before .before .before .before .before .before in
-    let meets = start .pre .meets in (
+    let entry = c .before .before .before .before .before .before .before in
+    let a = entry .args in
+    let m = entry .pre .meets in (
       zero-le,
-      record {
-        gone = record { done-size = meets .done-size; values-size = meets .values-size; states = λ w h k. absurd (not-suc-le-zero k) };
-        still = meets;
-      },
-      laid-none (graph start) (start .args .writing) (start .args .table .now) (start .args .rows),
+      subst (λ (t : ℕ). PassedTo entry t 0 (a .table .now) (a .p .rows) (a .p .states)) (sym (past entry))
+          (record {
+            going = record { gone = record { size = m .size; at = λ w h k. absurd (not-suc-le-zero k) }; still = m };
+            laid = laid-none (graph entry) (a .writing) (a .table .now) (a .p .rows);
+          }),
     )
 
-shl-loop : tie.Need-shl-loop Inv-loop μ-loop
-shl-loop c = omega (arith, few (c .before .before .before .before .before .before .before))
+module _ (c : tie.At-loop Inv-loop μ-loop) where
+  abbrev entry : tie.Start Inv-loop μ-loop
+  entry = c .before .before .before .before .before .before .before .before
 
-mul-d : tie.Need-mul-d Inv-loop μ-loop
-mul-d c = omega (arith, small c)
+  words : c .before .before .before .word-count .result ≡ 2 ^ controlCount (graph entry)
+  words = c .before .before .before .word-count .ensures ∙ words-all (graph entry) (entry .pre .planning .accepted .within)
 
-element-copy-out-d : tie.Need-element-copy-out-d Inv-loop μ-loop
-element-copy-out-d c = small c
+  passing : PassedTo entry (entry .args .p .past) (c .loop .word) (c .loop .table) (c .loop .rows) (c .loop .states)
+  passing = subst (λ (t : ℕ). PassedTo entry t (c .loop .word) (c .loop .table) (c .loop .rows) (c .loop .states)) (past entry) (c .loop .inv .1)
 
-mul-v : tie.Need-mul-v Inv-loop μ-loop
-mul-v c = omega (arith, small (c .before))
+-- A word passes.
+module _ (c : tie.In-loop Inv-loop μ-loop) where
+  abbrev begin : tie.Start Inv-loop μ-loop
+  begin = entry (c .before)
 
-element-copy-out-v : tie.Need-element-copy-out-v Inv-loop μ-loop
-element-copy-out-v c = small (c .before)
+  abbrev word : ℕ
+  word = c .before .loop .word
 
-add-word : tie.Need-add-word Inv-loop μ-loop
-add-word c = omega (arith, small (c .before .before .before .before))
+  abbrev state : State
+  state = stateAt (c .before .loop .states) word
 
-loop-less : tie.Need-loop-less Inv-loop μ-loop
-loop-less c = omega (arith, in-words (c .before .before .before .before))
+  in-words : word < 2 ^ controlCount (graph begin)
+  in-words = subst (λ (k : ℕ). word < k) (words (c .before)) (c .loop-test .taken)
 
-loop-again : tie.Need-loop-again Inv-loop μ-loop
-unfolding controlCount cycleRows
-loop-again c =
-    let turn = c .before .before .before .before in
-    let l = turn .before .loop in
-    let start = entry turn in
-    let a = start .args in
-    let g = graph start in
-    let done = of-true (sym (c .before .complete .ensures (a .limits .now) (a .arcs .now)) ∙ c .if1 .taken) in
-    let at = here g (a .past) (l .word) (l .done) (l .values) (l .inv .1) (in-words turn) in (
-      omega (arith, in-words turn),
-      going-stays g (a .past) (l .word) (l .done) (l .values) (l .inv .1) (in-words turn) done,
-      turn-laid g (rowOf g (a .past)) (2 ^ controlCount g) (l .word) (in-words turn) (a .writing) (a .table .now) (l .table) (a .rows) (l .rows) (l .inv .2)
-          (start .pre .room) (l .table) (l .rows)
-          (subst (Laid g (a .writing) (l .table) (l .table) (l .rows) (l .rows))
-          (sym (row-none g (a .past) (l .word) (subst (λ (s : State). T (complete g (s .done) (s .values))) at done)))
-          (laid-none g (a .writing) (l .table) (l .rows))),
-    )
+  small : word < 16
+  small = lt-of-lt-of-le in-words (pow-mono (few-controls (begin .pre .planning .accepted .within)))
+
+  -- its state is unfinished
+  module _ (left : T (not (complete (graph begin) state))) where
+    choosing : Choosing (graph begin) (begin .args .slots .now) (begin .args .used) state
+    choosing =
+        let a = begin .args in
+        let at = here (graph begin) (a .p .past) word (c .before .loop .states) (passing (c .before) .going) in-words in
+        subst (Choosing (graph begin) (a .slots .now) (a .used)) (sym at)
+        (met-choosing (graph begin) (a .slots .now) (a .used) (begin .pre .planning) (a .p .past) word in-words
+        (subst (λ (s : State). T (not (complete (graph begin) s))) at left))
+
+    values-small : state .values < 16
+    values-small =
+        let o = choosing in
+        reachable-values (graph begin) (o .accepted) state (o .store .good .reach state (o .held .0) (o .held .1))
+
+    -- where a step leads
+    goes : (step : ℕ) (f : Fork) (r : Fields) → f ≡ forkOf (graph begin) state step → stateOf r ≡ fallen f word
+        → stateOf r ≡ after (graph begin) state step word
+    goes step f r e h =
+        let v : state .values < 2 ^ 32 = omega (arith, values-small) in
+        let w : word < 2 ^ 32 = omega (arith, small) in
+        h ∙ ap (λ (k : Fork). fallen k word) e ∙ fallen-after (graph begin) state step word v w
+
+-- a test that fails
+fails : {b : Bool} (r : Bool) → r ≡ b → not r ≡ true → T (not b)
+fails r e t = of-false (sym e ∙ not-true r t)
+
+mul-s : tie.Need-mul-s Inv-loop μ-loop
+mul-s c = omega (arith, small c)
+
+array-copy-out-s : tie.Need-array-copy-out-s Inv-loop μ-loop
+array-copy-out-s c = small c
 
 chosen-requires : tie.Need-chosen-requires Inv-loop μ-loop
-chosen-requires c κs = (entry (turn c) .pre .classed, choosing c)
+chosen-requires c κs = choosing (c .before .before .before) (fails (c .before .complete .result) (c .before .complete .ensures) (c .if1 .taken))
 
 cast-place : tie.Need-cast-place Inv-loop μ-loop
-cast-place c = omega (arith, small (c .before .before .before .before .before .before))
-
-add-place : tie.Need-add-place Inv-loop μ-loop
-add-place c = omega (arith, c .before .before .before .before .before .before .before .before .before .before .before .before .before .before .pre .early)
+cast-place c = omega (arith, small (c .before .before .before .before .before))
 
 place-requires : tie.Need-place-requires Inv-loop μ-loop
-unfolding controlCount cycleRows
+unfolding mostRows
 place-requires c κs =
-    let chosen = c .before in
-    let unfinished = chosen .before in
-    let l = turn unfinished .before .loop in
-    let start = entry (turn unfinished) in
-    let a = start .args in
-    let g = graph start in
-    let held = choosing unfinished .held in (
-      λ e. subst (λ (k : ℕ). Room (a .writing) (l .table) (l .rows + k))
-          (ap length (row chosen ∙ ap (λ (b : Bool). cond b (record { cycle = a .past + 1; state = state unfinished; step = chosen .chosen .result } ∷ []) [])
-          (eq-eqb (getD (l .values) (l .word) 0) (l .word) e)))
-          (turn-room g (rowOf g (a .past)) (2 ^ controlCount g) (l .word) (in-words (turn unfinished)) (a .writing) (a .table .now) (l .table) (a .rows) (l .rows)
-          (l .inv .2) (start .pre .room)),
+    let turn = c .before .before .before .before .before in
+    let a = begin turn .args in
+    let q = begin turn .pre in
+    let l = turn .before .loop in
+    let p = passing (turn .before) in
+    let left = fails (c .before .before .before .complete .result) (c .before .before .before .complete .ensures) (c .before .before .if1 .taken) in
+    let edition = sym (c .before .before .before .before .before .before .before .before .before .before .edition .ensures .right) in (
+      λ e. subst (λ (k : ℕ). Room (a .writing) k (l .table) (l .rows + 1)) edition
+          (passing-room p (in-words turn) (q .room) (c .before .chosen .result) left (c .before .chosen .ensures) e),
       (
-        omega (
-          arith,
-          l .inv .2 .count,
-          small (turn unfinished),
-          list-length (l .word) 1 (rowOf g (a .past)) (λ w h. row-one g (a .past) w),
-          start .pre .early,
-          start .pre .few,
-        ),
-        omega (arith, start .pre .early),
-        omega (
-          arith,
-          reachable-values g (start .pre .planning .accepted) (state unfinished) (start .pre .planning .store .good .reach (state unfinished) (held .0) (held .1)),
-        ),
+        subst (λ (k : ℕ). l .rows < mostRows k) edition
+            (omega (
+              arith,
+              p .laid .count,
+              small turn,
+              list-length (l .word) 1 (rowOf (graph (begin turn)) (a .p .past)) (λ w h. row-one (graph (begin turn)) (a .p .past) w),
+              q .early,
+              q .few,
+            )),
+        omega (arith, q .early),
+        omega (arith, values-small turn left),
       ),
     )
 
-mul-done : tie.Need-mul-done Inv-loop μ-loop
-mul-done c = omega (arith, small (c .before .before .before .before .before .before .before .before .before .before))
+cast-fallen : tie.Need-cast-fallen Inv-loop μ-loop
+cast-fallen c = omega (arith, small (c .before .before .before .before .before .before .before .before .before))
 
-element-write-done : tie.Need-element-write-done Inv-loop μ-loop
-element-write-done c = small (c .before .before .before .before .before .before .before .before .before .before)
+mul-states : tie.Need-mul-states Inv-loop μ-loop
+mul-states c = omega (arith, small (c .before .before .before .before .before .before .before .before .before .before))
 
-cast-values-after : tie.Need-cast-values-after Inv-loop μ-loop
-cast-values-after c = omega (arith, small (c .before .before .before .before .before .before .before .before .before .before))
+array-set-from-states : tie.Need-array-set-from-states Inv-loop μ-loop
+array-set-from-states c = small (c .before .before .before .before .before .before .before .before .before .before)
 
-mul-values : tie.Need-mul-values Inv-loop μ-loop
-mul-values c = omega (arith, small (c .before .before .before .before .before .before .before .before .before .before .before))
+add-word : tie.Need-add-word Inv-loop μ-loop
+add-word c = omega (arith, small (c .before .before .before))
 
-element-write-values : tie.Need-element-write-values Inv-loop μ-loop
-element-write-values c = small (c .before .before .before .before .before .before .before .before .before .before .before)
+loop-less : tie.Need-loop-less Inv-loop μ-loop
+loop-less c = omega (arith, c .before .before .before .loop-test .taken)
 
-add-word-2 : tie.Need-add-word-2 Inv-loop μ-loop
-add-word-2 c = omega (arith, small (c .before .before .before .before .before .before .before .before .before .before .before))
-
-loop-less-2 : tie.Need-loop-less-2 Inv-loop μ-loop
-loop-less-2 c = omega (arith, in-words (c .before .before .before .before .before .before .before .before .before .before .before))
-
-loop-again-2 : tie.Need-loop-again-2 Inv-loop μ-loop
-unfolding controlCount cycleRows
-loop-again-2 c =
-    let placed = c .before .before .before .before in
-    let chosen = placed .before .before in
-    let unfinished = chosen .before in
-    let l = turn unfinished .before .loop in
-    let start = entry (turn unfinished) in
-    let a = start .args in
-    let g = graph start in
-    let goes = ap₂ {C = State} (λ (d v : ℕ). record { done = d; values = v })
-    (c .before .done-after .ensures (a .limits .now) (a .controls .now) (a .arcs .now) (getD (l .values) (l .word) 0) (l .word))
-    (c .values-after .ensures (a .limits .now) (a .operations .now) (a .arcs .now))
-    ∙ ap (λ (x : ℕ). after g (getD (l .done) (l .word) 0) (getD (l .values) (l .word) 0) x (l .word)) (chosen .chosen .ensures) in (
-      omega (arith, in-words (turn unfinished)),
-      going-on g (a .past) (l .word) (l .done) (l .values) (l .inv .1) (in-words (turn unfinished)) (c .before .done-after .result) (c .values-after .result)
-          (left unfinished) (small (turn unfinished)) goes,
-      turn-laid g (rowOf g (a .past)) (2 ^ controlCount g) (l .word) (in-words (turn unfinished)) (a .writing) (a .table .now) (l .table) (a .rows) (l .rows)
-          (l .inv .2) (start .pre .room) (placed .place .last .0) (placed .place .result)
-          (subst (Laid g (a .writing) (l .table) (placed .place .last .0) (l .rows) (placed .place .result)) (sym (row chosen)) (placed .place .ensures g)),
+loop-again : tie.Need-loop-again Inv-loop μ-loop
+loop-again c =
+    let turn = c .before .before .before in
+    let b = begin turn in
+    let p = passing (turn .before) in
+    let done = c .before .complete in (
+      omega (arith, turn .loop-test .taken),
+      subst (λ (t : ℕ). PassedTo b t (word turn + 1) (c .if1 .table) (c .if1 .rows) (c .if1 .states)) (sym (past b))
+          (⊎-elim
+          (λ w. let left = fails (done .result) (done .ensures) (w .0 .taken) in
+          rw (w .8, w .9, w .10)
+          (passing-on p (in-words turn) (b .pre .room) (w .1 .result) left (w .1 .ensures) (w .3 .last .0) (w .3 .result) (w .7 .result) (small turn)
+          (goes turn left (w .1 .result) (w .6 .result) (w .7 .result) (w .6 .ensures) (w .7 .ensures))
+          (w .3 .ensures (graph b) (sym (c .before .before .before .before .before .before .before .before .edition .ensures .right)))))
+          (λ w. rw (w .1, w .2, w .3)
+          (passing-stays p (in-words turn) (b .pre .room) (of-true (sym (done .ensures) ∙ not-false (done .result) (w .0 .left)))))
+          (c .if1 .came)),
     )
 
--- at the end all words have passed
-all-words : (c : tie.After-loop Inv-loop μ-loop)
-    → c .before .loop .word ≡ 2 ^ length (c .before .before .before .before .before .before .before .before .args .controls .now)
-all-words c =
-    let start = c .before .before .before .before .before .before .before .before in
-    let n = length (start .args .controls .now) in
-    le-antisymm (c .before .loop .inv .0) (subst (λ (k : ℕ). k ≤ c .before .loop .word) (shifted n (few start)) (c .loop-test .left))
+-- At the end all words have passed.
+module _ (c : tie.After-loop Inv-loop μ-loop) where
+  abbrev start : tie.Start Inv-loop μ-loop
+  start = entry (c .before)
 
-laid-all : (c : tie.After-loop Inv-loop μ-loop)
-    → let start = c .before .before .before .before .before .before .before .before in
-    Laid (graph start) (start .args .writing) (start .args .table .now) (c .before .loop .table) (start .args .rows) (c .before .loop .rows) (cycleRows (graph start) (start .args .past))
-unfolding controlCount cycleRows
-laid-all c =
-    let start = c .before .before .before .before .before .before .before .before in
-    let a = start .args in
-    subst (λ (k : ℕ). Laid (graph start) (a .writing) (a .table .now) (c .before .loop .table) (a .rows) (c .before .loop .rows) (listBelow k (rowOf (graph start) (a .past))))
-    (all-words c) (c .before .loop .inv .2)
+  passed : PassedTo start (start .args .p .past) (2 ^ controlCount (graph start)) (c .before .loop .table) (c .before .loop .rows) (c .before .loop .states)
+  passed =
+      subst (λ (w : ℕ). PassedTo start (start .args .p .past) w (c .before .loop .table) (c .before .loop .rows) (c .before .loop .states))
+      (le-antisymm (c .before .loop .inv .0) (c .loop-test .left) ∙ words (c .before)) (passing (c .before))
+
+  laid-all : Laid (graph start) (start .args .writing) (start .args .table .now) (c .before .loop .table) (start .args .p .rows) (c .before .loop .rows)
+      (cycleRows (graph start) (start .args .p .past))
+  unfolding cycleRows
+  laid-all = passed .laid
 
 same-length : tie.Need-same-length Inv-loop μ-loop
 same-length c =
-    let start = c .before .before .before .before .before .before .before .before in
-    let a = start .args in
-    laid-length (graph start) (a .writing) (a .table .now) (c .before .loop .table) (a .rows) (c .before .loop .rows) (cycleRows (graph start) (a .past)) (laid-all c)
-    (start .pre .room)
+    let a = start c .args in
+    let g = graph (start c) in
+    laid-length g (a .writing) (a .table .now) (c .before .loop .table) (a .p .rows) (c .before .loop .rows)
+    (cycleRows g (a .p .past)) (laid-all c) (start c .pre .room)
 
 returns : tie.Need-returns Inv-loop μ-loop
-unfolding controlCount
-returns c =
-    let start = c .before .before .before .before .before .before .before .before in
-    let l = c .before .loop in
-    record {
-      laid = laid-all c;
-      meets = subst (λ (k : ℕ). Meets (graph start) (suc (start .args .past)) 0 k (l .done) (l .values)) (all-words c) (l .inv .1 .gone);
-    }
+returns c = record { past = add-one (start c .args .p .past); laid = laid-all c; meets = passed c .going .gone }
 
 pub cycle-spec : {M : Type 1} → statement M
 cycle-spec =
     tie.close
-    (tie.spec
-    Inv-loop
-    μ-loop
-    loop-holds
-    shl-loop
-    mul-d
-    element-copy-out-d
-    mul-v
-    element-copy-out-v
-    (λ c κs. tt)
-    add-word
-    loop-less
-    loop-again
-    chosen-requires
-    cast-place
-    add-place
-    place-requires
-    (λ c κs. tt)
-    mul-done
-    element-write-done
-    cast-values-after
-    (λ c κs. tt)
-    mul-values
-    element-write-values
-    add-word-2
-    loop-less-2
-    loop-again-2
-    same-length
-    returns)
+    (tie.spec Inv-loop μ-loop (λ c κs. search needs) (λ c κs. search needs) (λ c. search needs) add-next loop-holds mul-s
+    array-copy-out-s (λ c κs. search needs) chosen-requires cast-place place-requires (λ c κs. search needs) cast-fallen
+    (λ c κs. search needs) mul-states array-set-from-states add-word loop-less loop-again same-length returns)

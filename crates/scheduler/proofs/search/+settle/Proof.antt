@@ -1,55 +1,56 @@
 -- `scheduler::search::settle` meets its contract; it calls itself on states of lower rank. The outer loop keeps the least over
 -- the steps tried, the inner one the worst over the words tried of one step. Assumes nothing.
-use Prim.Native.Nat.{ℕ, suc, min, _-_, _^_, _≤_, _<_}
+use Prim.Native.Nat.{ℕ, suc, min, _+_, _-_, _^_, _≤_, _<_, zero-le}
 use native.Mathlib.Omega.{arith}
-use mathlib.Core.Path.{_≡_, sym, _∙_, ap, ap₂, subst, subst₂}
+use mathlib.Core.Path.{_≡_, sym, _∙_, ap, subst, subst₂}
+use mathlib.Core.Logic.{⊎-elim}
 use mathlib.Core.Bool.{not}
 use lib.Dec.{T}
-use lib.Pow.{pow-pos}
 use borrow.Author.Needs.{needs}
 use borrow.Fn.Kinds.{In}
 use borrow.Fn.PlainCycle.{Measures, is, falls, and}
 use Rattle.machine.specs.Machine.{stateCount}
 use Rattle.machine.proofs.Truth.{of-true, of-false}
-use Rattle.meaning.specs.Graph.{Graph, operationCount}
-use Rattle.meaning.specs.Steps.{State, machineOf, complete, legal}
+use Rattle.meaning.specs.Graph.{Graph, content}
+use Rattle.meaning.specs.Steps.{State, machineOf, complete, legal, after}
 use Rattle.meaning.proofs.Instance.{undone, rank-falls}
-use Rattle.steps.specs.Parts.{graphOf}
-use Rattle.steps.specs.Masks.{within, allows, nextAbove, begun}
+use Rattle.steps.specs.declared.Moves.{Moves}
+use Rattle.steps.specs.declared.Fork.{Fork}
+use Rattle.steps.specs.Moves.{movesIn}
+use Rattle.steps.specs.States.{stateOf}
+use Rattle.steps.specs.Forks.{begun, forkOf, falls as outcome, fallen}
+use Rattle.steps.proofs.Allowed.{steps-all}
+use Rattle.steps.proofs.After.{fallen-after}
 use Rattle.scheduler.specs.declared.slots.Found.{Found}
 use Rattle.scheduler.specs.Slots.{Finds}
-use Rattle.scheduler.specs.Moves.{upTo, StepAbove, WordAbove}
-use Rattle.scheduler.specs.Search.{Ready, SettledTo, Storable}
+use Rattle.scheduler.specs.Search.{StepFrom, Ready, SettledTo, Storable}
 use Rattle.scheduler.proofs.SearchLaws.{found-settles, complete-storable, stored-settled, settled-after, reachable-values}
-use Rattle.scheduler.proofs.Moves.{step-found}
-use Rattle.scheduler.proofs.Turns.{next, Tried, tried-none, tried-next, tried-all, tried-fewer, Branched, branched-none, branched-ready, branched-next, forks-small, lawful-steps}
+use Rattle.scheduler.proofs.Turns.{Tried, tried-none, tried-next, tried-all, Branched, branched-none, branched-skip, branched-ready, branched-next, forks-small}
 use Rattle.scheduler.proofs.search.settle.Reads as settle
 use Rattle.scheduler.proofs.search.settle.Kinds as settle-kinds
 use Rattle.scheduler.proofs.search.+settle.Lts-settle as settle-lts
 use Rattle.scheduler.proofs.search.larger.Reads as larger-reads
+use Rattle.scheduler.proofs.search.next_step.Reads as next-step-reads
 use Rattle.scheduler.proofs.search.smaller.Reads as smaller-reads
 use Rattle.scheduler.proofs.search.store.Reads as store-reads
-use Rattle.scheduler.proofs.search.word_above.Reads as word-above-reads
 use Rattle.scheduler.proofs.slots.find.Reads as find-reads
-use Rattle.steps.proofs.begun.Reads as begun-reads
 use Rattle.steps.proofs.complete.Reads as complete-reads
-use Rattle.steps.proofs.constraints_of.Reads as constraints-of-reads
-use Rattle.steps.proofs.done_after.Reads as done-after-reads
-use Rattle.steps.proofs.step_above.Reads as step-above-reads
-use Rattle.steps.proofs.values_after.Reads as values-after-reads
+use Rattle.steps.proofs.fallen.Reads as fallen-reads
+use Rattle.steps.proofs.falls.Reads as falls-reads
+use Rattle.steps.proofs.fork_of.Reads as fork-of-reads
+use Rattle.steps.proofs.moves_in.Reads as moves-in-reads
 use Rattle.scheduler.proofs.search.+settle.{statement}
 use Rattle.scheduler.proofs.search.+settle.Tie.{close}
 
-abbrev μ-settle : Measures 6 settle-kinds.ps ℕ
-μ-settle κs a =
-    undone (graphOf (a .0 .now) (a .1 .0 .now) (a .1 .1 .0 .now) (a .1 .1 .1 .0 .now)) (record { done = a .1 .1 .1 .1 .1 .1 .1 .0; values = 0 })
+abbrev μ-settle : Measures 2 settle-kinds.ps ℕ
+μ-settle κs a = undone (content (a .0 .now)) (stateOf (a .1 .1 .1 .0))
 
 -- what `settle` is given at the measure t, and what a call of it asks below t
-abbrev settle-at : ℕ → In 6 settle-kinds.ps
-settle-at t = and 6 settle-kinds.ps (is 6 settle-kinds.ps μ-settle t) settle.Pre
+abbrev settle-at : ℕ → In 2 settle-kinds.ps
+settle-at t = and 2 settle-kinds.ps (is 2 settle-kinds.ps μ-settle t) settle.Pre
 
-abbrev settle-below : ℕ → In 6 settle-kinds.ps
-settle-below t = and 6 settle-kinds.ps (falls 6 settle-kinds.ps _<_ μ-settle t) settle.Pre
+abbrev settle-below : ℕ → In 2 settle-kinds.ps
+settle-below t = and 2 settle-kinds.ps (falls 2 settle-kinds.ps _<_ μ-settle t) settle.Pre
 
 abbrev callees : ℕ → settle-lts.Claims
 callees t = (
@@ -59,306 +60,242 @@ callees t = (
   complete-reads.Learnt,
   store-reads.Asked,
   store-reads.Learnt,
-  constraints-of-reads.Asked,
-  constraints-of-reads.Learnt,
-  step-above-reads.Asked,
-  step-above-reads.Learnt,
-  begun-reads.Asked,
-  begun-reads.Learnt,
-  done-after-reads.Asked,
-  done-after-reads.Learnt,
-  values-after-reads.Asked,
-  values-after-reads.Learnt,
+  moves-in-reads.Asked,
+  moves-in-reads.Learnt,
+  next-step-reads.Asked,
+  next-step-reads.Learnt,
+  fork-of-reads.Asked,
+  fork-of-reads.Learnt,
+  falls-reads.Asked,
+  falls-reads.Learnt,
+  fallen-reads.Asked,
+  fallen-reads.Learnt,
   settle-below t,
   settle.Post,
   larger-reads.Asked,
   larger-reads.Learnt,
-  word-above-reads.Asked,
-  word-above-reads.Learnt,
   smaller-reads.Asked,
   smaller-reads.Learnt,
 )
 
 abbrev Inv-loop2 : settle-lts.InvT-loop2
-Inv-loop2 limits operations controls arcs classes slots₀ used done values constraints used₀ least step forks after worst₀ word₀ slots used' worst word =
-    Branched (graphOf limits operations controls arcs) (record { done = done; values = values }) step slots₀ slots used' worst word
+Inv-loop2 graph slots₀ used s moves steps used₀ least step fork begun worst₀ word₀ slots used' worst word =
+    Branched (content graph) (stateOf s) step slots₀ slots used' worst word
 
 abbrev μ-loop2 : settle-lts.MeasureT-loop2
-μ-loop2 limits operations controls arcs classes slots₀ used done values constraints used₀ least step forks after worst₀ word₀ slots used' worst word = suc forks - word
+μ-loop2 graph slots₀ used s moves steps used₀ least step fork begun worst₀ word₀ slots used' worst word = suc begun - word
 
 abbrev Inv-loop : settle-lts.InvT-loop
-Inv-loop limits operations controls arcs classes slots₀ used done values constraints used₀ least₀ step₀ slots used' least step =
-    Tried (graphOf limits operations controls arcs) (record { done = done; values = values }) slots₀ slots used' least step
+Inv-loop graph slots₀ used s moves steps used₀ least₀ step₀ slots used' least step =
+    Tried (content graph) (stateOf s) slots₀ slots used' least step
 
 abbrev μ-loop : settle-lts.MeasureT-loop
-μ-loop limits operations controls arcs classes slots₀ used done values constraints used₀ least₀ step₀ slots used' least step =
-    let g = graphOf limits operations controls arcs in 2 ^ operationCount g - upTo g step
+μ-loop graph slots₀ used s moves steps used₀ least₀ step₀ slots used' least step = steps - step
 
 module _ (t : ℕ) where
   abbrev Entry : Type 0
   Entry = settle-lts.Start (callees t) (settle-at t) settle.Post Inv-loop2 μ-loop2 Inv-loop μ-loop
 
-  abbrev Absent : Type 0
-  Absent = settle-lts.After-enum-told (callees t) (settle-at t) settle.Post Inv-loop2 μ-loop2 Inv-loop μ-loop
-
-  abbrev Complete : Type 0
-  Complete = settle-lts.Then1 (callees t) (settle-at t) settle.Post Inv-loop2 μ-loop2 Inv-loop μ-loop
-
-  abbrev Unfinished : Type 0
-  Unfinished = settle-lts.Else1 (callees t) (settle-at t) settle.Post Inv-loop2 μ-loop2 Inv-loop μ-loop
-
-  abbrev Stepped : Type 0
-  Stepped = settle-lts.After-step-above (callees t) (settle-at t) settle.Post Inv-loop2 μ-loop2 Inv-loop μ-loop
-
-  abbrev Turn : Type 0
-  Turn = settle-lts.In-loop (callees t) (settle-at t) settle.Post Inv-loop2 μ-loop2 Inv-loop μ-loop
-
-  abbrev Tests : Type 0
-  Tests = settle-lts.After-begun (callees t) (settle-at t) settle.Post Inv-loop2 μ-loop2 Inv-loop μ-loop
-
-  abbrev Branch : Type 0
-  Branch = settle-lts.In-loop2 (callees t) (settle-at t) settle.Post Inv-loop2 μ-loop2 Inv-loop μ-loop
-
-  abbrev Fallen : Type 0
-  Fallen = settle-lts.After-values-after (callees t) (settle-at t) settle.Post Inv-loop2 μ-loop2 Inv-loop μ-loop
-
-  abbrev Called : Type 0
-  Called = settle-lts.After-settle (callees t) (settle-at t) settle.Post Inv-loop2 μ-loop2 Inv-loop μ-loop
-
-  abbrev All : Type 0
-  All = settle-lts.After-loop (callees t) (settle-at t) settle.Post Inv-loop2 μ-loop2 Inv-loop μ-loop
-
   -- the graph, the state that is asked, and the duty
   abbrev graph : Entry → Graph
-  graph e = graphOf (e .args .limits .now) (e .args .operations .now) (e .args .controls .now) (e .args .arcs .now)
+  graph e = content (e .args .graph .now)
 
   abbrev state : Entry → State
-  state e = record { done = e .args .done; values = e .args .values }
+  state e = stateOf (e .args .s)
 
   ready : (e : Entry) → Ready (graph e) (e .args .slots .now) (e .args .used) (state e)
-  ready e = e .pre .1 .1
+  ready e = e .pre .1
 
-  values-small : (e : Entry) → e .args .values < 16
+  values-small : (e : Entry) → e .args .s .values < 16
   values-small e = reachable-values (graph e) (ready e .accepted) (state e) (ready e .reachable)
 
   -- the state is not held yet
-  module _ (c : Absent) where
-    abbrev asked : Entry
-    asked = c .before .before .before .before .before .before .before .before .before
-
-    absent : Finds (asked .args .slots .now) (state asked) Found.Nothing
-    absent = subst (Finds (asked .args .slots .now) (state asked)) (c .enum-told .given .1) (c .before .before .find .ensures)
+  absent : (c : settle-lts.After-enum-told (callees t) (settle-at t) settle.Post Inv-loop2 μ-loop2 Inv-loop μ-loop) → Finds (c .before .before .before .before .before .before .args .slots .now) (state (c .before .before .before .before .before .before)) Found.Nothing
+  absent c = subst (Finds (c .before .before .before .before .before .before .args .slots .now) (state (c .before .before .before .before .before .before))) (c .enum-told .given .1) (c .before .before .find .ensures)
 
   -- it is complete
-  storable-now : (c : Complete) → let e = asked (c .before .before) in Storable (graph e) (e .args .slots .now) (e .args .used) (state e) 0
+  storable-now : (c : settle-lts.Then1 (callees t) (settle-at t) settle.Post Inv-loop2 μ-loop2 Inv-loop μ-loop) → let e = c .before .before .before .before .before .before .before .before in Storable (graph e) (e .args .slots .now) (e .args .used) (state e) 0
   storable-now c =
-      let e = asked (c .before .before) in
+      let e = c .before .before .before .before .before .before .before .before in
       complete-storable (graph e) (e .args .slots .now) (e .args .used) (state e) (ready e) (absent (c .before .before))
-      (of-true (sym (c .before .complete .ensures (e .args .limits .now) (e .args .arcs .now)) ∙ c .if1 .taken))
+      (of-true (sym (c .before .complete .ensures) ∙ c .if1 .taken))
 
   -- it is not
-  module _ (c : Unfinished) where
-    abbrev origin : Entry
-    origin = asked (c .before .before)
+  unfinished : (c : settle-lts.Else1 (callees t) (settle-at t) settle.Post Inv-loop2 μ-loop2 Inv-loop μ-loop) → T (not (complete (graph (c .before .before .before .before .before .before .before .before)) (state (c .before .before .before .before .before .before .before .before))))
+  unfinished c = of-false (sym (c .before .complete .ensures) ∙ c .if1 .left)
 
-    unfinished : T (not (complete (graph origin) (state origin .done) (state origin .values)))
-    unfinished = of-false (sym (c .before .complete .ensures (origin .args .limits .now) (origin .args .arcs .now)) ∙ c .if1 .left)
+  -- how many steps there are
+  all-steps : (c : settle-lts.After-moves-in (callees t) (settle-at t) settle.Post Inv-loop2 μ-loop2 Inv-loop μ-loop) → c .moves-in .result .steps ≡ machineOf (graph (c .before .before .before .before .before .before .before .before .before)) .steps
+  all-steps c =
+      let e = c .before .before .before .before .before .before .before .before .before in
+      ap (λ (m : Moves). m .steps) (c .moves-in .ensures) ∙ steps-all (graph e) (ready e .accepted .within) (state e)
 
-  -- a step after x
-  next-step : (c : Stepped) (x y : ℕ) → let e = origin (c .before .before) in x < 2 ^ operationCount (graph e)
-      → y ≡ nextAbove (2 ^ 32) (allows (e .args .limits .now) (e .args .classes .now) (c .before .constraints-of .result)) x → StepAbove (graph e) (state e) x y
-  next-step c x y h k =
-      let e = origin (c .before .before) in
-      step-found (graph e) (ready e .accepted) (state e) (e .args .classes .now) (c .before .constraints-of .result) x y (e .pre .1 .0)
-      (c .before .constraints-of .ensures (e .args .limits .now)) h k
-
-  -- a legal step is tried
-  module _ (c : Turn) where
-    abbrev first : Stepped
-    first = c .before .before
-
+  -- a step is tried
+  module _ (c : settle-lts.In-loop (callees t) (settle-at t) settle.Post Inv-loop2 μ-loop2 Inv-loop μ-loop) where
     abbrev from : Entry
-    from = origin (first .before .before)
-
-    lawful : T (legal (graph from) (state from .done) (state from .values) (c .before .loop .step))
-    lawful = c .before .loop .inv .lawful (c .loop-test .taken)
-
-    step-below : c .before .loop .step < 2 ^ operationCount (graph from)
-    step-below = lawful-steps (graph from) (state from) (ready from .accepted) (c .before .loop .step) lawful
-
-  -- the controls that it begins
-  forks-are : (c : Tests) → let e = from (c .before) in c .begun .result ≡ begun (graph e) (state e .done) (c .before .before .loop .step)
-  forks-are c = let a = from (c .before) .args in c .begun .ensures (a .limits .now) (a .operations .now) (a .arcs .now)
-
-  -- a word over them
-  module _ (c : Branch) where
-    abbrev tests : Tests
-    tests = c .before .before .before
-
-    abbrev turn : Turn
-    turn = tests .before
+    from = c .before .before .before .before .before .before .before .before .before .before .before .before
 
     abbrev step : ℕ
-    step = turn .before .loop .step
+    step = c .before .loop .step
 
-    in-forks : c .before .loop2 .word ≤ begun (graph (from turn)) (state (from turn) .done) step
-    in-forks = subst (λ (k : ℕ). c .before .loop2 .word ≤ k) (forks-are tests) (c .loop2-test .taken)
+    step-below : step < machineOf (graph from) .steps
+    step-below = subst (λ (k : ℕ). step < k) (all-steps (c .before .before .before)) (c .loop-test .taken)
 
-  -- the next state
-  goes : (c : Fallen) → let e = from (turn (c .before)) in
-      record { done = c .before .before .before .done-after .result; values = c .values-after .result } ≡ next (graph e) (state e) (step (c .before)) (c .before .before .loop2 .word)
-  goes c =
-      let a = from (turn (c .before)) .args in
-      ap₂ (λ (d v : ℕ). record { done = d; values = v })
-      (c .before .before .before .done-after .ensures (a .limits .now) (a .controls .now) (a .arcs .now) (a .values) (c .before .before .loop2 .word))
-      (c .values-after .ensures (a .limits .now) (a .operations .now) (a .arcs .now))
+    lawful : T (legal (graph from) (state from) step)
+    lawful = c .before .loop .inv .lawful step-below
+
+  -- a word over the controls that it begins
+  module _ (c : settle-lts.In-loop2 (callees t) (settle-at t) settle.Post Inv-loop2 μ-loop2 Inv-loop μ-loop) where
+    abbrev turn : settle-lts.In-loop (callees t) (settle-at t) settle.Post Inv-loop2 μ-loop2 Inv-loop μ-loop
+    turn = c .before .before .before
+
+    forks-are : c .before .before .fork-of .result .begun ≡ begun (graph (from turn)) (state (from turn) .done) (step turn)
+    unfolding forkOf
+    forks-are = ap (λ (f : Fork). f .begun) (c .before .before .fork-of .ensures)
+
+    in-forks : c .before .loop2 .word ≤ begun (graph (from turn)) (state (from turn) .done) (step turn)
+    in-forks = subst (λ (k : ℕ). c .before .loop2 .word ≤ k) forks-are (c .loop2-test .taken)
+
+    word-small : c .before .loop2 .word < 16
+    word-small = omega (arith, in-forks, forks-small (graph (from turn)) (state (from turn)) (ready (from turn) .accepted) (step turn))
+
+    -- the next state, as the code has it
+    goes : (r : State) → r ≡ fallen (c .before .before .fork-of .result) (c .before .loop2 .word) → r ≡ after (graph (from turn)) (state (from turn)) (step turn) (c .before .loop2 .word)
+    goes r e =
+        let v : state (from turn) .values < 2 ^ 32 = omega (arith, values-small (from turn)) in
+        let w : c .before .loop2 .word < 2 ^ 32 = omega (arith, word-small) in
+        e ∙ ap (λ (f : Fork). fallen f (c .before .loop2 .word)) (c .before .before .fork-of .ensures)
+        ∙ fallen-after (graph (from turn)) (state (from turn)) (step turn) (c .before .loop2 .word) v w
 
   -- all steps are tried
-  module _ (c : All) where
-    abbrev last : Unfinished
-    last = c .before .before .before .before
-
-    storable-last : let e = origin last in Storable (graph e) (c .before .loop .slots) (c .before .loop .used) (state e) (c .before .loop .least)
-    storable-last =
-        let e = origin last in
-        let l = c .before .loop in
-        tried-all (graph e) (state e) (ready e .accepted) (e .args .slots .now) (l .slots) (l .used) (l .least)
-        (subst (Tried (graph e) (state e) (e .args .slots .now) (l .slots) (l .used) (l .least)) (c .loop-test .left) (l .inv)) (unfinished last)
-        (ready e .reachable) (absent (last .before .before))
+  storable-last : (c : settle-lts.After-loop (callees t) (settle-at t) settle.Post Inv-loop2 μ-loop2 Inv-loop μ-loop) → let e = c .before .before .before .before .before .before .before .before .before .before .before .before in Storable (graph e) (c .before .loop .slots) (c .before .loop .used) (state e) (c .before .loop .least)
+  storable-last c =
+      let e = c .before .before .before .before .before .before .before .before .before .before .before .before in
+      let l = c .before .loop in
+      tried-all (graph e) (state e) (ready e .accepted) (e .args .slots .now) (l .slots) (l .used) (l .least) (l .step) (l .inv)
+      (subst (λ (k : ℕ). k ≤ l .step) (all-steps (c .before .before .before)) (c .loop-test .left)) (unfinished (c .before .before .before .before))
+      (ready e .reachable) (absent (c .before .before .before .before .before .before))
 
   find-requires : settle-lts.Need-find-requires (callees t) (settle-at t) settle.Post Inv-loop2 μ-loop2 Inv-loop μ-loop
-  find-requires c κs = (ready (c .before .before .before .before .before .before) .store .order, values-small (c .before .before .before .before .before .before))
+  find-requires c κs = (ready (c .before .before .before) .store .order, values-small (c .before .before .before))
 
   returns : settle-lts.Need-returns (callees t) (settle-at t) settle.Post Inv-loop2 μ-loop2 Inv-loop μ-loop
   returns c =
-      let e = c .before .before .before .before .before .before .before .before .before .before in
+      let e = c .before .before .before .before .before .before .before in
       found-settles (graph e) (e .args .slots .now) (e .args .used) (state e) (c .before .number .given .0 .0) (ready e .store)
       (subst (Finds (e .args .slots .now) (state e)) (c .before .number .given .1) (c .before .before .before .find .ensures))
 
   store-requires : settle-lts.Need-store-requires (callees t) (settle-at t) settle.Post Inv-loop2 μ-loop2 Inv-loop μ-loop
   store-requires c κs =
       let s = storable-now (c .before) in
-      (s .ready .store .order, ((values-small (asked (c .before .before .before)), omega (arith, s .right .small)), s .absent))
+      (s .ready .store .order, ((values-small (c .before .before .before .before .before .before .before .before .before), omega (arith, s .right .small)), s .absent))
+
+  same-length-2 : settle-lts.Need-same-length-2 (callees t) (settle-at t) settle.Post Inv-loop2 μ-loop2 Inv-loop μ-loop
+  same-length-2 c = c .before .before .store .kept .0
 
   returns-2 : settle-lts.Need-returns-2 (callees t) (settle-at t) settle.Post Inv-loop2 μ-loop2 Inv-loop μ-loop
   returns-2 c =
-      let complete = c .before .before .before .before in
-      let e = asked (complete .before .before) in
+      let e = c .before .before .before .before .before .before .before .before .before .before .before .before in
       let stored = c .before .before .store in
-      stored-settled (graph e) (e .args .slots .now) (stored .last .0) (e .args .used) (state e) 0 (storable-now complete) (stored .kept .0) (stored .result)
-      (stored .ensures)
+      stored-settled (graph e) (e .args .slots .now) (stored .last .0) (e .args .used) (state e) 0 (storable-now (c .before .before .before .before))
+      (stored .kept .0) (stored .result) (stored .ensures)
 
   loop-holds : settle-lts.Need-loop-holds (callees t) (settle-at t) settle.Post Inv-loop2 μ-loop2 Inv-loop μ-loop
   loop-holds c =
-      let e = origin (c .before .before) in
-      tried-none (graph e) (state e) (e .args .slots .now) (e .args .used) (c .step-above .result) (ready e .store)
-      (next-step c 0 (c .step-above .result) (pow-pos (operationCount (graph e))) (c .step-above .ensures))
+      let e = c .before .before .before .before .before .before .before .before .before .before in
+      tried-none (graph e) (state e) (e .args .slots .now) (e .args .used) (c .next-step .result) (ready e .store)
+      (c .next-step .ensures (graph e) (state e) (ready e .accepted .within) (c .before .moves-in .ensures) zero-le)
 
   loop2-holds : settle-lts.Need-loop2-holds (callees t) (settle-at t) settle.Post Inv-loop2 μ-loop2 Inv-loop μ-loop
   loop2-holds c =
-      let l = c .before .before .before .loop in
-      let e = from (c .before .before) in
+      let e = c .before .before .before .before .before .before .before .before .before .before .before .before .before in
+      let l = c .before .before .loop in
       branched-none (graph e) (state e) (l .step) (l .slots) (l .used) (l .inv .grown .store)
 
   settle-requires : settle-lts.Need-settle-requires (callees t) (settle-at t) settle.Post Inv-loop2 μ-loop2 Inv-loop μ-loop
   settle-requires c κs =
-      let fallen = c .before in
-      let branch = fallen .before in
-      let e = from (turn branch) in
-      let b = branch .before .loop2 in (
-        subst (λ (k : ℕ). undone (graph e) (record { done = fallen .before .before .before .done-after .result; values = 0 }) < k) (e .pre .0)
-            (subst (λ (s : State). undone (graph e) s < undone (graph e) (state e)) (sym (goes fallen))
-            (rank-falls (graph e) (ready e .accepted .taken) (state e) (step branch) (b .word) (lawful (turn branch)))),
-        (
-          e .pre .1 .0,
-          subst (Ready (graph e) (b .slots) (b .used)) (sym (goes fallen))
-              (branched-ready (graph e) (state e) (ready e .accepted) (step branch) (turn branch .before .loop .slots) (b .slots) (b .used) (b .worst) (b .word)
-              (ready e .reachable) (unfinished (first (turn branch) .before .before)) (lawful (turn branch)) (b .inv) (in-forks branch)),
-        ),
+      let branch = c .before .before .before .before in
+      let e = c .before .before .before .before .before .before .before .before .before .before .before .before .before .before .before .before .before .before .before in
+      let b = c .before .before .before .before .before .loop2 in
+      let x = step (turn branch) in
+      let there = goes branch (stateOf (c .fallen .result)) (c .fallen .ensures) in (
+        subst (λ (k : ℕ). undone (graph e) (stateOf (c .fallen .result)) < k) (e .pre .0)
+            (subst (λ (s : State). undone (graph e) s < undone (graph e) (state e)) (sym there)
+            (rank-falls (graph e) (ready e .accepted .taken) (state e) x (b .word) (lawful (turn branch)))),
+        subst (Ready (graph e) (b .slots) (b .used)) (sym there)
+            (branched-ready (graph e) (state e) (ready e .accepted) x (c .before .before .before .before .before .before .before .before .loop .slots) (b .slots) (b .used) (b .worst) (b .word)
+            (ready e .reachable) (unfinished (turn branch .before .before .before .before)) (lawful (turn branch)) (b .inv) (in-forks branch)),
       )
 
   same-length-3 : settle-lts.Need-same-length-3 (callees t) (settle-at t) settle.Post Inv-loop2 μ-loop2 Inv-loop μ-loop
-  same-length-3 c =
-      let called = c .before .before .before .before in
-      let branch = called .before .before .before in
-      let b = branch .before .loop2 in
-      let l = turn branch .before .loop in
-      called .settle .kept .1 .1 .1 .1 .1 .0 ∙ b .inv .grown .same-length ∙ l .inv .grown .same-length
+  same-length-3 c = c .before .before .before .before .settle .kept .1 .0 ∙ c .before .before .before .before .before .before .before .before .before .before .loop2 .inv .grown .same-length ∙ c .before .before .before .before .before .before .before .before .before .before .before .before .before .loop .inv .grown .same-length
 
   returns-3 : settle-lts.Need-returns-3 (callees t) (settle-at t) settle.Post Inv-loop2 μ-loop2 Inv-loop μ-loop
   returns-3 c =
-      let called = c .before .before .before .before in
-      let branch = called .before .before .before in
-      let b = branch .before .loop2 in
-      let l = turn branch .before .loop in
-      let e = from (turn branch) in
-      subst (λ (k : ℕ). k < stateCount (machineOf (graph e))) (b .inv .grown .same-length ∙ l .inv .grown .same-length)
-      (subst₂ (SettledTo (graph e) (b .slots) (called .settle .last .1 .1 .1 .1 .1 .0)) (goes (called .before .before)) (c .enum-told2 .given .1) (called .settle .ensures))
-
-  word-above-requires : settle-lts.Need-word-above-requires (callees t) (settle-at t) settle.Post Inv-loop2 μ-loop2 Inv-loop μ-loop
-  word-above-requires c κs =
       let branch = c .before .before .before .before .before .before .before .before .before in
-      let e = from (turn branch) in
-      let forks = sym (forks-are (tests branch)) in (
-        subst (λ (k : ℕ). k < 16) forks (forks-small (graph e) (state e) (ready e .accepted) (step branch)),
-        (
-          branch .loop2-test .taken,
-          subst (λ (k : ℕ). T (within (branch .before .loop2 .word) k)) forks (branch .before .loop2 .inv .over (in-forks branch)),
-        ),
-      )
+      let e = c .before .before .before .before .before .before .before .before .before .before .before .before .before .before .before .before .before .before .before .before .before .before .before .before in
+      let b = c .before .before .before .before .before .before .before .before .before .before .loop2 in
+      subst (λ (k : ℕ). k < stateCount (machineOf (graph e))) (b .inv .grown .same-length ∙ c .before .before .before .before .before .before .before .before .before .before .before .before .before .loop .inv .grown .same-length)
+      (subst₂ (SettledTo (graph e) (b .slots) (c .before .before .before .before .settle .last .1 .0)) (goes branch (stateOf (c .before .before .before .before .before .fallen .result)) (c .before .before .before .before .before .fallen .ensures))
+      (c .enum-told2 .given .1) (c .before .before .before .before .settle .ensures))
+
+  add-word : settle-lts.Need-add-word (callees t) (settle-at t) settle.Post Inv-loop2 μ-loop2 Inv-loop μ-loop
+  add-word c = omega (arith, word-small (c .before .before))
 
   loop2-less : settle-lts.Need-loop2-less (callees t) (settle-at t) settle.Post Inv-loop2 μ-loop2 Inv-loop μ-loop
-  loop2-less c = omega (arith, c .word-above .ensures .above, c .before .before .before .before .before .before .before .before .before .before .loop2-test .taken)
+  loop2-less c = omega (arith, c .before .before .loop2-test .taken)
 
   loop2-again : settle-lts.Need-loop2-again (callees t) (settle-at t) settle.Post Inv-loop2 μ-loop2 Inv-loop μ-loop
   loop2-again c =
-      let called = c .before .before .before .before .before .before .before in
-      let branch = called .before .before .before in
-      let b = branch .before .loop2 in
-      let l = turn branch .before .loop in
-      let e = from (turn branch) in
+      let branch = c .before .before in
+      let e = c .before .before .before .before .before .before .before .before .before .before .before .before .before .before .before .before .before in
+      let b = c .before .before .before .loop2 in
+      let l = c .before .before .before .before .before .before .loop in
       let g = graph e in
       let s = state e in
-      let after = called .settle .last .1 .1 .1 .1 .1 .0 in
-      let given = c .before .before .before .settled .given in
-      let number = given .0 .0 in
-      let more = given .0 .1 .0 in
-      let above = c .word-above .result in
-      subst (λ (k : ℕ). Branched g s (step branch) (l .slots) after more k above) (sym (c .before .larger .ensures))
-      (branched-next g s (ready e .accepted) (step branch) (l .slots) (b .slots) after (b .used) more (b .worst) number (b .word) above (lawful (turn branch)) (b .inv)
-      (in-forks branch) (subst₂ (SettledTo g (b .slots) after) (goes (called .before .before)) (given .1) (called .settle .ensures))
-      (subst (λ (k : ℕ). WordAbove k (b .word) above) (forks-are (tests branch)) (c .word-above .ensures)))
+      let x = step (turn branch) in
+      ⊎-elim
+      (λ w. rw (w .10, w .11, w .12, w .9 .ensures)
+      (branched-next g s (ready e .accepted) x (l .slots) (b .slots) (w .3 .last .1 .0) (b .used) (w .7 .given .0 .1 .0) (b .worst) (w .7 .given .0 .0)
+      (b .word) (lawful (turn branch)) (b .inv) (in-forks branch)
+      (subst (λ (f : Fork). T (outcome f (b .word))) (c .before .before .before .before .fork-of .ensures) (of-true (sym (c .before .falls .ensures) ∙ w .0 .taken)))
+      (subst₂ (SettledTo g (b .slots) (w .3 .last .1 .0)) (goes branch (stateOf (w .2 .result)) (w .2 .ensures)) (w .7 .given .1) (w .3 .ensures))))
+      (λ w. rw (w .1, w .2, w .3)
+      (branched-skip g s x (l .slots) (b .slots) (b .used) (b .worst) (b .word) (b .inv)
+      (subst (λ (f : Fork). T (not (outcome f (b .word)))) (c .before .before .before .before .fork-of .ensures) (of-false (sym (c .before .falls .ensures) ∙ w .0 .left)))))
+      (c .if2 .came)
 
   add-smaller : settle-lts.Need-add-smaller (callees t) (settle-at t) settle.Post Inv-loop2 μ-loop2 Inv-loop μ-loop
   add-smaller c = omega (arith, c .before .loop2 .inv .worst .small)
 
+  -- the next step
+  following : (c : settle-lts.After-next-step2 (callees t) (settle-at t) settle.Post Inv-loop2 μ-loop2 Inv-loop μ-loop) → StepFrom (graph (c .before .before .before .before .before .before .before .before .before .before .before .before .before .before .before .before .before .before)) (state (c .before .before .before .before .before .before .before .before .before .before .before .before .before .before .before .before .before .before)) (c .before .before .before .before .before .before .before .loop .step + 1) (c .next-step2 .result)
+  following c =
+      let e = c .before .before .before .before .before .before .before .before .before .before .before .before .before .before .before .before .before .before in
+      let tried = c .before .before .before .before .before .before in
+      c .next-step2 .ensures (graph e) (state e) (ready e .accepted .within) (c .before .before .before .before .before .before .before .before .before .moves-in .ensures) (omega (arith, step-below tried))
+
   loop-less : settle-lts.Need-loop-less (callees t) (settle-at t) settle.Post Inv-loop2 μ-loop2 Inv-loop μ-loop
-  loop-less c =
-      let turn = c .before .before .before .before .before .before .before in
-      let e = from turn in
-      let x = turn .before .loop .step in
-      tried-fewer (graph e) (state e) (ready e .accepted) x (c .step-above2 .result) (turn .loop-test .taken) (lawful turn)
-      (next-step (first turn) x (c .step-above2 .result) (step-below turn) (c .step-above2 .ensures))
+  loop-less c = omega (arith, following c .from, c .before .before .before .before .before .before .loop-test .taken)
 
   loop-again : settle-lts.Need-loop-again (callees t) (settle-at t) settle.Post Inv-loop2 μ-loop2 Inv-loop μ-loop
   loop-again c =
       let branched = c .before .before .before in
-      let b = branched .before .loop2 in
-      let tests = branched .before .before .before in
-      let turn = tests .before in
-      let l = turn .before .loop in
-      let e = from turn in
-      let y = c .step-above2 .result in
+      let tried = c .before .before .before .before .before .before in
+      let b = c .before .before .before .before .loop2 in
+      let l = c .before .before .before .before .before .before .before .loop in
+      let e = c .before .before .before .before .before .before .before .before .before .before .before .before .before .before .before .before .before .before in
+      let y = c .next-step2 .result in
       subst (λ (k : ℕ). Tried (graph e) (state e) (e .args .slots .now) (b .slots) (b .used) k y)
       (sym (c .before .smaller2 .ensures ∙ ap (min (l .least)) (c .before .before .smaller .ensures)))
       (tried-next (graph e) (state e) (ready e .accepted) (e .args .slots .now) (l .slots) (b .slots) (l .used) (b .used) (l .least) (b .worst) (l .step) (b .word) y
-      (l .inv) (turn .loop-test .taken) (b .inv) (subst (λ (k : ℕ). k < b .word) (forks-are tests) (branched .loop2-test .left))
-      (next-step (first turn) (l .step) y (step-below turn) (c .step-above2 .ensures)))
+      (l .inv) (step-below tried) (b .inv) (unfold forkOf in subst (λ (k : ℕ). k < b .word) (ap (λ (f : Fork). f .begun) (c .before .before .before .before .before .fork-of .ensures)) (c .before .before .before .loop2-test .left))
+      (following c))
 
   store-requires-2 : settle-lts.Need-store-requires-2 (callees t) (settle-at t) settle.Post Inv-loop2 μ-loop2 Inv-loop μ-loop
   store-requires-2 c κs =
       let s = storable-last (c .before) in
-      (s .ready .store .order, ((values-small (origin (last (c .before))), omega (arith, s .right .small)), s .absent))
+      (s .ready .store .order, ((values-small (c .before .before .before .before .before .before .before .before .before .before .before .before .before), omega (arith, s .right .small)), s .absent))
 
   same-length-4 : settle-lts.Need-same-length-4 (callees t) (settle-at t) settle.Post Inv-loop2 μ-loop2 Inv-loop μ-loop
   same-length-4 c = c .before .before .store2 .kept .0 ∙ c .before .before .before .before .before .loop .inv .grown .same-length
@@ -366,8 +303,8 @@ module _ (t : ℕ) where
   returns-4 : settle-lts.Need-returns-4 (callees t) (settle-at t) settle.Post Inv-loop2 μ-loop2 Inv-loop μ-loop
   returns-4 c =
       let all = c .before .before .before .before in
-      let e = origin (last all) in
-      let l = all .before .loop in
+      let e = c .before .before .before .before .before .before .before .before .before .before .before .before .before .before .before .before in
+      let l = c .before .before .before .before .before .loop in
       let stored = c .before .before .store2 in
       settled-after (graph e) (e .args .slots .now) (l .slots) (stored .last .0) (l .used) (state e) (stored .result) (l .inv .grown)
       (stored-settled (graph e) (l .slots) (stored .last .0) (l .used) (state e) (l .least) (storable-last all) (stored .kept .0) (stored .result) (stored .ensures))
@@ -383,14 +320,14 @@ pub +settle-spec : {M : Type 1} → statement M
     (λ c. search needs)
     (λ c κs. search needs)
     (store-requires t)
-    (λ c. c .before .before .store .kept .0)
+    (same-length-2 t)
     (returns-2 t)
     (λ c κs. search needs)
     (λ c κs. search needs)
     (loop-holds t)
     (λ c κs. search needs)
-    (λ c κs. search needs)
     (loop2-holds t)
+    (λ c κs. search needs)
     (λ c κs. search needs)
     (settle-requires t)
     (λ c. search needs)
@@ -398,12 +335,13 @@ pub +settle-spec : {M : Type 1} → statement M
     (same-length-3 t)
     (returns-3 t)
     (λ c κs. search needs)
-    (word-above-requires t)
+    (add-word t)
     (loop2-less t)
     (loop2-again t)
     (add-smaller t)
     (λ c κs. search needs)
     (λ c κs. search needs)
+    (λ c. search needs)
     (λ c κs. search needs)
     (loop-less t)
     (loop-again t)

@@ -1,21 +1,26 @@
 -- `scheduler::slots::find` meets its contract. No slot below i has the key of the state. Assumes nothing.
-use Prim.Native.Nat.{ℕ, _≤_, _<_, _-_, _^_, _%_}
+use Prim.Native.Nat.{ℕ, _≤_, _<_, _-_, _/_, _^_}
 use native.Mathlib.Nat.{not-suc-le-zero}
 use native.Mathlib.Omega.{arith}
 use mathlib.Core.Path.{_≡_, sym, _∙_}
 use lib.ListN.{getD}
+use lib.Bits.{mask-lt}
 use borrow.Author.Count.{below-more}
 use borrow.Author.Needs.{needs}
-use Rattle.scheduler.specs.Slots.{numberIn}
-use Rattle.scheduler.proofs.SlotLaws.{found-here, found-nowhere}
+use Rattle.steps.specs.States.{stateOf}
+use Rattle.scheduler.specs.Slots.{numberBit}
+use Rattle.scheduler.proofs.SlotLaws.{Fits, keyIn, found-here, found-nowhere}
 use Rattle.scheduler.proofs.slots.find.Statement.{statement}
 use Rattle.scheduler.proofs.slots.find.Tie as tie
 
 abbrev Inv-loop : tie.InvT-loop
-Inv-loop slots used done values key i₀ i = (i ≤ used) × ((k : ℕ) → k < i → getD slots k 0 % 2 ^ 49 ≡ key → ⊥)
+Inv-loop slots used key i₀ i = (i ≤ used) × ((k : ℕ) → k < i → keyIn (getD slots k 0) ≡ key → ⊥)
 
 abbrev μ-loop : tie.MeasureT-loop
-μ-loop slots used done values key i₀ i = used - i
+μ-loop slots used key i₀ i = used - i
+
+fits : (start : tie.Start Inv-loop μ-loop) → Fits (stateOf (start .args .s))
+fits start = record { done = omega arith; values = start .pre .1 }
 
 loop-holds : tie.Need-loop-holds Inv-loop μ-loop
 loop-holds c = (search needs, λ k h. absurd (not-suc-le-zero h))
@@ -23,13 +28,16 @@ loop-holds c = (search needs, λ k h. absurd (not-suc-le-zero h))
 shared-slice-read-slot : tie.Need-shared-slice-read-slot Inv-loop μ-loop
 shared-slice-read-slot c = omega (arith, c .before .before .before .before .before .pre .0 .within)
 
+cast-number : tie.Need-cast-t14 Inv-loop μ-loop
+cast-number c =
+    let slot = getD (c .before .before .before .before .before .before .args .slots .now) (c .before .before .before .loop .i) 0 in
+    omega (arith, mask-lt (slot / 2 ^ numberBit) 6)
+
 returns : tie.Need-returns Inv-loop μ-loop
-unfolding numberIn
 returns c =
     let start = c .before .before .before .before .before .before in
-    found-here (start .args .slots .now) (start .args .used) (start .pre .0) (record { done = start .args .done; values = start .args .values })
-    (record { done = omega (arith, start .fits .done); values = omega (arith, start .pre .1) }) (c .before .before .before .loop .i) (c .before .before .loop-test .taken)
-    (c .if1 .taken ∙ c .before .before .before .before .key .ensures)
+    found-here (start .args .slots .now) (start .args .used) (start .pre .0) (stateOf (start .args .s)) (fits start)
+    (c .before .before .before .loop .i) (c .before .before .loop-test .taken) (c .if1 .taken ∙ c .before .before .before .before .key .ensures)
 
 loop-again : tie.Need-loop-again Inv-loop μ-loop
 loop-again c = (search needs, below-more _ _ (c .before .before .before .loop .inv .1) (c .if1 .left))
@@ -37,8 +45,7 @@ loop-again c = (search needs, below-more _ _ (c .before .before .before .loop .i
 returns-2 : tie.Need-returns-2 Inv-loop μ-loop
 returns-2 c =
     let start = c .before .before .before .before in
-    found-nowhere (start .args .slots .now) (start .args .used) (start .pre .0) (record { done = start .args .done; values = start .args .values })
-    (record { done = omega (arith, start .fits .done); values = omega (arith, start .pre .1) })
+    found-nowhere (start .args .slots .now) (start .args .used) (start .pre .0) (stateOf (start .args .s)) (fits start)
     (λ i h e. c .before .loop .inv .1 i (omega arith) (e ∙ sym (c .before .before .key .ensures)))
 
 pub find-spec : {M : Type 1} → statement M
@@ -52,6 +59,8 @@ find-spec =
     (λ c. search needs)
     shared-slice-read-slot
     (λ c. search needs)
+    (λ c. search needs)
+    cast-number
     returns
     (λ c. search needs)
     (λ c. search needs)

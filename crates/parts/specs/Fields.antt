@@ -1,0 +1,49 @@
+-- What is said of a part that is cut from a file, and of every graph that has a part.
+use Prim.Native.Nat.{ℕ, min, _+_, _^_, _<_}
+use mathlib.Core.Path.{_≡_}
+use mathlib.Core.List.{List}
+use lib.ListN.{length}
+use denote.Ref.{RefT, now, ptr}
+use Rattle.meaning.specs.Graph.{Graph, Literals, class, path, source, target, kind, joins}
+use Rattle.parts.specs.declared.Literals.{Literals as Masks}
+use Rattle.parts.specs.declared.Operation.{Operation}
+use Rattle.parts.specs.declared.Arc.{Arc}
+
+-- the set of literals that two masks hold
+unfoldable pub literalsOf : Masks → Literals
+literalsOf l = record { onTrue = l .«on_true»; onFalse = l .«on_false» }
+
+-- r is operation j of the graph, and r is arc a
+pub record IsOperation (g : Graph) (j : ℕ) (r : Operation) : Type 0 where
+  pub class : r .«class» ≡ class g j
+  pub path : literalsOf (r .path) ≡ path g j
+
+pub record IsArc (g : Graph) (a : ℕ) (r : Arc) : Type 0 where
+  pub source : r .source ≡ source g a
+  pub target : r .target ≡ target g a
+  pub kind : r .kind ≡ kind g a
+  pub joins : literalsOf (r .joins) ≡ joins g a
+
+-- r is the place n, which has no more than so many bits
+pub record Stands (n bits r : ℕ) : Type 0 where
+  pub right : r ≡ n
+  pub small : r < 2 ^ bits
+
+-- r is these bytes of the lent ones: what it holds, and where it lies, in the same block and from a place on, or at the end
+pub record Lent (bytes : List ℕ) (from : ℕ) (whole r : RefT (List ℕ)) : Type 0 where
+  pub holds : now r ≡ bytes
+  pub block : ptr r .0 ≡ ptr whole .0
+  pub place : ptr r .1 ≡ ptr whole .1 + min from (length (now whole))
+
+-- What is said of every graph that has these limits, operations, controls or arcs, whatever its other parts are.
+abbrev pub OfLimits : List ℕ → (Graph → Type 0) → Type 0
+OfLimits limits P = (g : Graph) → g .limits ≡ limits → P g
+
+abbrev pub OfOperations : ℕ → List ℕ → (Graph → Type 0) → Type 0
+OfOperations edition operations P = (g : Graph) → g .edition ≡ edition → g .operations ≡ operations → P g
+
+abbrev pub OfControls : List ℕ → (Graph → Type 0) → Type 0
+OfControls controls P = (g : Graph) → g .controls ≡ controls → P g
+
+abbrev pub OfArcs : List ℕ → (Graph → Type 0) → Type 0
+OfArcs arcs P = (g : Graph) → g .arcs ≡ arcs → P g
