@@ -4,10 +4,11 @@ use mathlib.Core.Path.{_≡_}
 use mathlib.Core.List.{List}
 use lib.ListN.{length}
 use denote.Ref.{RefT, now, ptr}
-use Rattle.meaning.specs.Graph.{Graph, Literals, class, path, source, target, kind, joins}
+use Rattle.meaning.specs.Graph.{operationsOf, classesOf, controlsOf, Graph, Literals, class, path, source, target, kind, joins}
 use Rattle.parts.specs.declared.Literals.{Literals as Masks}
 use Rattle.parts.specs.declared.Operation.{Operation}
 use Rattle.parts.specs.declared.Arc.{Arc}
+use Rattle.parts.specs.declared.Counts.{Counts}
 
 -- the set of literals that two masks hold
 unfoldable pub literalsOf : Masks → Literals
@@ -23,6 +24,15 @@ pub record IsArc (g : Graph) (a : ℕ) (r : Arc) : Type 0 where
   pub target : r .target ≡ target g a
   pub kind : r .kind ≡ kind g a
   pub joins : literalsOf (r .joins) ≡ joins g a
+
+-- r has the counts of operations, classes and controls that the header says, each of a byte
+pub record Counted (file : List ℕ) (r : Counts) : Type 0 where
+  pub operations : r .operations ≡ operationsOf file
+  pub classes : r .classes ≡ classesOf file
+  pub controls : r .controls ≡ controlsOf file
+  pub operations-small : r .operations < 256
+  pub classes-small : r .classes < 256
+  pub controls-small : r .controls < 256
 
 -- r is the place n, which has no more than so many bits
 pub record Stands (n bits r : ℕ) : Type 0 where

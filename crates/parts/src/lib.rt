@@ -8,7 +8,7 @@ ghost use lib.Seq.{slice};
 ghost use Rattle.meaning.specs.Graph.{Graph, byteAt, known, mostOperations, mostClasses, mostControls, mostArcs, operationBytes, editionOf, operationsStart, controlsStart, arcsStart, fileEnd, content, operationCount, arcCount, limit, class, path, producer, source, target, kind, joins};
 ghost use Rattle.meaning.specs.TableFile.{maskBytes, rowBytes, rowStart, mostRows};
 ghost use Rattle.numbers.specs.Reads.{Reads};
-ghost use Rattle.parts.specs.Fields.{Stands, Lent, literalsOf, IsOperation, IsArc, OfLimits, OfOperations, OfControls, OfArcs};
+ghost use Rattle.parts.specs.Fields.{Counted, Stands, Lent, literalsOf, IsOperation, IsArc, OfLimits, OfOperations, OfControls, OfArcs};
 
 const HEADER_BYTES: usize = 16;
 
@@ -106,6 +106,18 @@ pub fn most_rows(edition: u32) -> usize
     384
 }
 
+fn place(b: u8) -> usize
+    ensures { λ r. ⌜ r ≡ b ⌝ }
+{
+    b as usize
+}
+
+fn mask(b: u8) -> u32
+    ensures { λ r. ⌜ r ≡ b ⌝ }
+{
+    b as u32
+}
+
 // The edition that a file says.
 pub fn edition(file: &[u8]) -> u32
     ensures { λ r. ⌜ Reads (content (now (file .entry)) .edition) 1 r ⌝ }
@@ -113,25 +125,49 @@ pub fn edition(file: &[u8]) -> u32
     byte(file, 2)
 }
 
+// The counts that the header says. A file that has a whole header is asked at once.
+struct Counts {
+    pub operations: usize,
+    pub classes: usize,
+    pub controls: usize,
+}
+
+fn header_counts(file: &[u8]) -> Counts
+    ensures { λ r. ⌜ Counted (now (file .entry)) r ⌝ }
+{
+    if file.len() < HEADER_BYTES {
+        return Counts {
+            operations: byte(file, 3) as usize,
+            classes: byte(file, 4) as usize,
+            controls: byte(file, 5) as usize,
+        };
+    }
+    Counts {
+        operations: place(file[3]),
+        classes: place(file[4]),
+        controls: place(file[5]),
+    }
+}
+
 // Where the operations have to stand.
 pub fn operations_start(file: &[u8]) -> usize
     ensures { λ r. ⌜ Stands (operationsStart (now (file .entry))) 9 r ⌝ }
 {
-    HEADER_BYTES + byte(file, 4) as usize
+    HEADER_BYTES + header_counts(file).classes
 }
 
 // Where the controls have to stand.
 pub fn controls_start(file: &[u8]) -> usize
     ensures { λ r. ⌜ Stands (controlsStart (now (file .entry))) 11 r ⌝ }
 {
-    operations_start(file) + operation_bytes(edition(file)) * (byte(file, 3) as usize)
+    operations_start(file) + operation_bytes(edition(file)) * header_counts(file).operations
 }
 
 // Where the arcs have to stand.
 pub fn arcs_start(file: &[u8]) -> usize
     ensures { λ r. ⌜ Stands (arcsStart (now (file .entry))) 12 r ⌝ }
 {
-    controls_start(file) + byte(file, 5) as usize
+    controls_start(file) + header_counts(file).controls
 }
 
 // Where the file has to end.
@@ -203,18 +239,6 @@ pub fn limit(limits: &[u8], k: usize) -> u8
     ensures { λ r. ⌜ OfLimits (now (limits .entry)) (λ g. r ≡ limit g k) ⌝ }
 {
     if k < limits.len() { limits[k] } else { 0 }
-}
-
-fn place(b: u8) -> usize
-    ensures { λ r. ⌜ r ≡ b ⌝ }
-{
-    b as usize
-}
-
-fn mask(b: u8) -> u32
-    ensures { λ r. ⌜ r ≡ b ⌝ }
-{
-    b as u32
 }
 
 // How many operations there are.

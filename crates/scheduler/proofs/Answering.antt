@@ -1,5 +1,5 @@
 -- Laws of the scheduler's answers: refusals 12 to 14, and the file that is written. Assumes nothing.
-use Prim.Native.Nat.{ℕ, suc, _*_, _≤_, _<_}
+use Prim.Native.Nat.{ℕ, suc, _*_, _≤_, _<_, zero-le}
 use native.Mathlib.Nat.{le-trans, zero-add, mul-comm}
 use native.Mathlib.Omega.{arith}
 use mathlib.Core.Path.{_≡_, refl, sym, _∙_, ap, ap₂, subst}
@@ -26,9 +26,9 @@ use Rattle.scheduler.specs.Slots.{Holds}
 use Rattle.scheduler.specs.Search.{Store}
 use Rattle.scheduler.specs.Rows.{Planning, cycleRows}
 use Rattle.scheduler.specs.Writing.{written}
-use Rattle.scheduler.specs.Promise.{valuesOf, Promised, Answered, laterLines}
-use Rattle.scheduler.proofs.RowLaws.{rows-are, cycle-rows}
-use Rattle.scheduler.proofs.WriteLaws.{written-then}
+use Rattle.scheduler.specs.Promise.{valuesOf, Promised, Answered, laterLines, RowsIn}
+use Rattle.scheduler.proofs.RowLaws.{row-mono, rows-are, cycle-rows}
+use Rattle.scheduler.proofs.WriteLaws.{written-before}
 
 -- The number that is held with the start is its remaining number, or there is none.
 module _ (g : Graph) (a : Accepted g) (slots : List ℕ) (used number : ℕ) (store : Store g slots used) (held : Holds slots (machineOf g .start) number) where
@@ -136,14 +136,14 @@ module _ (g : Graph) where
       cycles : ℕ
       cycles = remaining (machineOf g) (machineOf g .start)
 
+  -- the rows, and then the header
   pub file-written : (edition cycles rows : ℕ) (t u v : List ℕ) → g .edition ≡ edition → cycles ≡ remaining (machineOf g) (machineOf g .start)
-      → rows ≡ length (scheduleRows (machineOf g)) → u ≡ written t 0 (headerFile edition cycles rows)
-      → v ≡ written u (rowStart (g .edition) 1) (rowFiles g (scheduleRows (machineOf g))) → rowStart (g .edition) 1 ≤ length t
-      → v ≡ scheduleFile g ++ drop (length (scheduleFile g)) t
+      → RowsIn g t u rows → v ≡ written u 0 (headerFile edition cycles rows) → v ≡ scheduleFile g ++ drop (length (scheduleFile g)) t
   unfolding written scheduleFile tableFile headerFile bytesOf
-  file-written edition cycles rows t u v one c r e d room =
-      written-then t u v 0 (rowStart (g .edition) 1) (headerFile edition cycles rows) files e d (row-first (g .edition))
-      (subst (λ (k : ℕ). k ≤ length t) (row-first (g .edition)) room)
+  file-written edition cycles rows t u v one c r e =
+      written-before t u v (rowStart (g .edition) 1) (headerFile edition cycles rows) files (r .table) e (row-first (g .edition))
+      (le-trans (row-mono (g .edition) 0 (length (scheduleRows (machineOf g))) zero-le)
+      (subst (λ (k : ℕ). k ≤ length t) schedule-length (r .room)))
       ∙ ap (λ (l : List ℕ). written t 0 l) same ∙ ap (λ (k : ℕ). scheduleFile g ++ drop k t) (zero-add (length (scheduleFile g)))
     where
       files : List ℕ
@@ -152,7 +152,7 @@ module _ (g : Graph) where
       same : headerFile edition cycles rows ++ files ≡ scheduleFile g
       same =
           ap (λ (k : ℕ). headerFile k cycles rows ++ files) (sym one)
-          ∙ ap₂ (λ (a b : ℕ). headerFile (g .edition) a b ++ files) c r
+          ∙ ap₂ (λ (a b : ℕ). headerFile (g .edition) a b ++ files) c (r .count)
 
 -- The promise for a file, by the reader's verdict.
 module _ (file slots table : List ℕ) where

@@ -1,12 +1,12 @@
 -- Laws of writing bytes into a buffer. Assumes nothing.
 use Prim.Native.Nat.{ℕ, suc, _+_, _-_, _^_, _/_, _%_, _≤_, _<_}
-use native.Mathlib.Nat.{add-zero, mod-eq-of-lt}
+use native.Mathlib.Nat.{add-zero, zero-add, mod-eq-of-lt}
 use native.Mathlib.Numerals.{add-one}
 use native.Mathlib.Omega.{arith}
 use mathlib.Core.Path.{_≡_, refl, sym, _∙_, ap, ap₂}
 use mathlib.Core.List.{List, [], _∷_, _++_, append-assoc}
 use lib.ListN.{length, take, drop, set, length-append, length-drop, take-append-drop}
-use lib.Seq.{take-at, drop-append-add, drop-drop, length-take-le, take-suc-set, drop-set-lt}
+use lib.Seq.{take-at, drop-at, drop-append-add, drop-drop, length-take-le, take-suc-set, drop-set-lt}
 use Rattle.machine.specs.Tables.{Row}
 use Rattle.meaning.specs.Graph.{Graph}
 use Rattle.meaning.specs.Steps.{machineOf}
@@ -80,6 +80,19 @@ pub written-then : (t u v : List ℕ) (at next : ℕ) (a b : List ℕ) → u ≡
     → next ≡ at + length a → at + length a ≤ length t → v ≡ written t at (a ++ b)
 written-then t u v at next a b d e h k =
     e ∙ ap₂ (λ (x : List ℕ) (i : ℕ). written x i b) d h ∙ written-more t at a b k
+
+-- what stands before is written last
+pub written-before : (t u v : List ℕ) (next : ℕ) (a b : List ℕ) → u ≡ written t next b → v ≡ written u 0 a
+    → next ≡ length a → next ≤ length t → v ≡ written t 0 (a ++ b)
+unfolding written
+written-before t u v next a b d e h k =
+    e ∙ ap (λ (x : List ℕ). a ++ drop (0 + length a) x) d
+    ∙ ap (λ (n : ℕ). a ++ drop n (take next t ++ (b ++ drop (next + length b) t))) (zero-add (length a) ∙ sym h)
+    ∙ ap (λ (x : List ℕ). a ++ x) (drop-at (take next t) (b ++ drop (next + length b) t) next (length-take-le next t k))
+    ∙ sym (append-assoc a b (drop (next + length b) t)) ∙ ap (λ (n : ℕ). (a ++ b) ++ drop n t) there
+  where
+    there : next + length b ≡ 0 + length (a ++ b)
+    there = omega (arith, length-append a b)
 
 -- A header, field by field: the buffer after the first write, the second, and so on.
 module _ (t first second third fourth fifth : List ℕ) (edition cycles rows : ℕ) (room : rowStart edition 1 ≤ length t) (known : edition < 2 ^ 8) (few : cycles < 2 ^ 8) where

@@ -13,7 +13,7 @@ use crate::table::row_start;
 use reader::Read;
 ghost use Rattle.meaning.specs.Graph.{content};
 ghost use Rattle.meaning.proofs.Taken.{Accepted};
-ghost use Rattle.scheduler.specs.Promise.{Promised, LayAsks, LayGives, SolveGives};
+ghost use Rattle.scheduler.specs.Promise.{Promised, FillAsks, FillGives, LayAsks, LayGives, SolveGives};
 
 // What the scheduler answers.
 pub enum Scheduled {
@@ -28,6 +28,30 @@ pub enum Scheduled {
     },
 }
 
+// The rows of a schedule in the buffer, or that they have no room there.
+enum Filled {
+    Short,
+    Rows(usize),
+}
+
+// Writes the rows behind the place of the header. Where the buffer has room for any table they are written at once; else they
+// are counted first, since a buffer that is too short stays as it is.
+fn fill(graph: &[u8], slots: &[u64], used: usize, cycles: u32, table: &mut [u8]) -> Filled
+    requires { ⌜ FillAsks (content (now graph)) (now slots) used cycles ⌝ }
+    ensures { λ r. ⌜ FillGives (content (now (graph .entry))) (now (table .entry)) (now (table .exit)) r ⌝ }
+{
+    let edition = parts::edition(graph);
+    if row_start(edition, parts::most_rows(edition)) <= table.len() {
+        return Filled::Rows(plan(graph, slots, used, cycles, table, true));
+    }
+    let rows = plan(graph, slots, used, cycles, table, false);
+    if table.len() < row_start(edition, rows) {
+        return Filled::Short;
+    }
+    plan(graph, slots, used, cycles, table, true);
+    Filled::Rows(rows)
+}
+
 // The table of a graph whose reachable states are all held, the start with the given number; or refusal 13 or 14.
 fn lay(graph: &[u8], slots: &[u64], used: usize, number: u32, table: &mut [u8]) -> Scheduled
     requires { ⌜ LayAsks (content (now graph)) (now slots) used number ⌝ }
@@ -40,15 +64,14 @@ fn lay(graph: &[u8], slots: &[u64], used: usize, number: u32, table: &mut [u8]) 
         };
     }
     let edition = parts::edition(graph);
-    let rows = plan(graph, slots, used, number, table, false);
-    if table.len() < row_start(edition, rows) {
+    let filled = fill(graph, slots, used, number, table);
+    let Filled::Rows(rows) = filled else {
         return Scheduled::Refused {
             number: 14,
             place: 0,
         };
-    }
+    };
     put_header(table, edition, number, rows as u32);
-    plan(graph, slots, used, number, table, true);
     Scheduled::Done {
         cycles: number,
         rows,

@@ -135,7 +135,10 @@ fn waits(arc: Arc, resolved: u32, s: State) -> bool
 fn demands(arc: Arc, done: Set) -> bool
     ensures { λ r. ⌜ ((g : Graph) (a : ℕ) → IsArc g a arc → r ≡ demanding g done a) ⌝ }
 {
-    (arc.kind == 1) & masks::has(done, arc.source) & !masks::has(done, arc.target)
+    if arc.kind != 1 {
+        return false;
+    }
+    masks::has(done, arc.source) & !masks::has(done, arc.target)
 }
 
 // What the arcs say of their targets: which are held back, and which are demanded.

@@ -1,21 +1,19 @@
 -- `scheduler::lay` meets its contract. Assumes nothing.
 use Prim.Native.Nat.{ℕ, suc, _≤_, _<_, zero-le}
-use native.Mathlib.Nat.{zero-add, le-trans}
+use native.Mathlib.Nat.{le-trans}
 use native.Mathlib.Omega.{arith}
-use mathlib.Core.Path.{_≡_, sym, _∙_, ap, ap₂, subst}
+use mathlib.Core.Path.{_≡_, sym, _∙_, ap, subst}
 use mathlib.Core.List.{List}
 use lib.ListN.{length}
 use Rattle.machine.specs.Machine.{remaining}
 use Rattle.machine.specs.Tables.{scheduleRows}
 use Rattle.meaning.specs.Graph.{Graph, content}
 use Rattle.meaning.specs.Steps.{machineOf}
-use Rattle.meaning.specs.TableFile.{mostRows, rowStart, headerFile, scheduleFile}
+use Rattle.meaning.specs.TableFile.{mostRows, rowStart, scheduleFile}
 use Rattle.meaning.proofs.Taken.{few-operations}
-use Rattle.meaning.proofs.TableFile.{row-first, row-small}
 use Rattle.scheduler.specs.declared.Scheduled.the-variants.{Refused}
 use Rattle.scheduler.specs.Rows.{Planning}
-use Rattle.scheduler.specs.Writing.{written}
-use Rattle.scheduler.specs.Promise.{Answered, laterLines}
+use Rattle.scheduler.specs.Promise.{Answered, laterLines, RowsIn, FillGives}
 use Rattle.scheduler.proofs.RowLaws.{row-mono}
 use Rattle.scheduler.proofs.Answering.{start-number, planning, no-number, thirteen, fourteen, nothing-left, answered-refused, answered-taken, schedule-length, few-rows, file-written}
 use borrow.Author.Needs.{needs}
@@ -44,34 +42,28 @@ module _ (c : tie.Else1) where
   number-is =
       start-number (graph from) (from .pre .accepted) (from .args .slots .now) (from .args .used) (from .args .number) (from .pre .store) (from .pre .held) low
 
--- the rows are counted
-module _ (c : tie.After-plan) where
+-- the rows are in the buffer
+module _ (c : tie.After-filled) where
   abbrev found : tie.Else1
-  found = c .before .before .before
+  found = c .before .before .before .before .before .before .before
 
-  abbrev start : Entry
-  start = from found
+  abbrev table : List ℕ
+  table = c .before .before .before .before .before .before .before .before .before .before .before .before .args .table .now
 
-  abbrev edition : ℕ
-  edition = c .before .before .edition .result
+  rows-in : RowsIn (graph (from found)) table (c .before .before .before .before .fill .last .1 .1 .1 .1 .0) (c .filled .given .0 .0)
+  rows-in = subst (FillGives (graph (from found)) table (c .before .before .before .before .fill .last .1 .1 .1 .1 .0)) (c .filled .given .1) (c .before .before .before .before .fill .ensures)
 
-  edition-is : graph start .edition ≡ edition
-  edition-is = sym (c .before .before .edition .ensures .right)
-
-  rows-are : c .plan .result ≡ length (scheduleRows (machineOf (graph start)))
-  rows-are = c .plan .ensures .count ∙ zero-add (length (scheduleRows (machineOf (graph start))))
-
-  few : c .plan .result ≤ mostRows edition
+  few : c .filled .given .0 .0 ≤ mostRows (c .before .before .before .before .before .before .edition .result)
   few =
-      subst (λ (k : ℕ). k ≤ mostRows edition) (sym rows-are)
-      (subst (λ (e : ℕ). length (scheduleRows (machineOf (graph start))) ≤ mostRows e) edition-is
-      (few-rows (graph start) (start .pre .accepted) (plans found .numbered)))
+      subst (λ (k : ℕ). k ≤ mostRows (c .before .before .before .before .before .before .edition .result)) (sym (rows-in .count))
+      (subst (λ (e : ℕ). length (scheduleRows (machineOf (graph (from found)))) ≤ mostRows e) (sym (c .before .before .before .before .before .before .edition .ensures .right))
+      (few-rows (graph (from found)) (from found .pre .accepted) (plans found .numbered)))
 
-  file-is : length (scheduleFile (graph start)) ≡ rowStart edition (suc (c .plan .result))
-  file-is = schedule-length (graph start) ∙ ap₂ (λ (e n : ℕ). rowStart e (suc n)) edition-is (sym rows-are)
-
-  same : length (c .plan .last .1 .1 .1 .1 .0) ≡ length (start .args .table .now)
-  same = ap length (c .plan .ensures .table)
+  headed : rowStart (c .before .before .before .before .before .before .edition .result) 1 ≤ length table
+  headed =
+      subst (λ (e : ℕ). rowStart e 1 ≤ length table) (sym (c .before .before .before .before .before .before .edition .ensures .right))
+      (le-trans (row-mono (graph (from found) .edition) 0 (length (scheduleRows (machineOf (graph (from found))))) zero-le)
+      (subst (λ (k : ℕ). k ≤ length table) (schedule-length (graph (from found))) (rows-in .room)))
 
 returns : tie.Need-returns
 returns c =
@@ -82,66 +74,46 @@ returns c =
     (no-number g (e .pre .accepted) (e .args .slots .now) (e .args .used) (e .args .number) (e .pre .store) (e .pre .held)
     (subst (λ (k : ℕ). k < e .args .number) (c .before .horizon .ensures) (c .if1 .taken))))
 
-plan-requires : tie.Need-plan-requires
-plan-requires c κs =
-    let f = c .before .before in
-    record { planning = plans f; number = number-is f; room = λ t. absurd t }
-
-row-start-requires : tie.Need-row-start-requires
-row-start-requires c κs = few (c .before .before)
+fill-requires : tie.Need-fill-requires
+fill-requires c κs = record { planning = plans (c .before .before); number = number-is (c .before .before) }
 
 same-length : tie.Need-same-length
-same-length c = same (c .before .before .before .before)
+same-length c = c .before .before .before .before .fill .kept .1 .1 .1 .1 .0
 
 returns-2 : tie.Need-returns-2
 returns-2 c =
-    let p = c .before .before .before .before in
     let e = c .before .before .before .before .before .before .before .before .before .before .before .before in
     let g = graph e in
     let t = e .args .table .now in
-    subst (λ (u : List ℕ). Answered g (laterLines g (length t)) (e .args .used) t u (Refused 14 0)) (sym (c .before .before .before .before .plan .ensures .table))
+    let short = subst (FillGives g t (c .before .before .before .before .fill .last .1 .1 .1 .1 .0)) (c .enum-told .given .1) (c .before .before .before .before .fill .ensures) in
+    subst (λ (u : List ℕ). Answered g (laterLines g (length t)) (e .args .used) t u (Refused 14 0)) (sym (short .0))
     (answered-refused g (laterLines g (length t)) (e .args .used) t 14 0
-    (fourteen g (length t) (plans (found p) .numbered) (omega (arith, c .if2 .taken, c .before .row-start .ensures, same p, file-is p))))
+    (fourteen g (length t) (plans (c .before .before .before .before .before .before .before) .numbered) (short .1)))
 
 cast-put-header : tie.Need-cast-put-header
 unfolding mostRows
-cast-put-header c = omega (arith, few (c .before .before .before .before .before))
+cast-put-header c = omega (arith, few (c .before .before))
 
 put-header-requires : tie.Need-put-header-requires
 put-header-requires c κs =
-    let p = c .before .before .before .before .before in (
-      omega (arith, c .before .if2 .left, c .before .before .row-start .ensures, row-mono (edition p) 0 (c .before .before .before .before .before .plan .result) zero-le),
-      (c .before .before .before .before .before .before .before .edition .ensures .small, omega (arith, low (found p), few-operations (c .before .before .before .before .before .before .before .before .before .before .before .before .before .pre .accepted .within))),
+    let f = c .before .before in (
+      omega (arith, headed f, c .before .before .before .before .before .before .fill .kept .1 .1 .1 .1 .0),
+      (c .before .before .before .before .before .before .before .before .edition .ensures .small, omega (arith, low (found f), few-operations (c .before .before .before .before .before .before .before .before .before .before .before .before .before .before .pre .accepted .within))),
     )
 
-plan-requires-2 : tie.Need-plan-requires-2
-plan-requires-2 c κs =
-    let p = c .before .before .before .before .before .before .before .before .before in
-    record {
-      planning = plans (found p);
-      number = number-is (found p);
-      room = λ t. subst (λ (k : ℕ). k ≤ length (c .before .before .before .put-header .last .0))
-          (c .before .before .before .before .before .before .row-start .ensures ∙ sym (file-is p) ∙ schedule-length (graph (start p))) (omega (arith, c .before .before .before .before .before .if2 .left, c .before .before .before .put-header .kept .0));
-    }
-
 same-length-2 : tie.Need-same-length-2
-same-length-2 c =
-    let p = c .before .before .before .before .before .before .before .before .before .before .before .before in
-    c .before .before .plan2 .kept .1 .1 .1 .1 .0 ∙ c .before .before .before .before .before .before .put-header .kept .0 ∙ same p
+same-length-2 c = c .before .before .put-header .kept .0 ∙ c .before .before .before .before .before .before .before .before .before .fill .kept .1 .1 .1 .1 .0
 
 returns-3 : tie.Need-returns-3
 returns-3 c =
-    let p = c .before .before .before .before .before .before .before .before .before .before .before .before in
-    let e = c .before .before .before .before .before .before .before .before .before .before .before .before .before .before .before .before .before .before .before .before in
+    let f = c .before .before .before .before .before in
+    let e = c .before .before .before .before .before .before .before .before .before .before .before .before .before .before .before .before .before in
     let g = graph e in
     let t = e .args .table .now in
-    let room : length (scheduleFile g) ≤ length t = omega (arith, c .before .before .before .before .before .before .before .before .if2 .left, c .before .before .before .before .before .before .before .before .before .row-start .ensures, same p, file-is p) in
-    answered-taken g (laterLines g (length t)) (e .args .used) (e .args .number) (c .before .before .before .before .before .before .before .before .before .before .before .before .plan .result) t (c .before .before .plan2 .last .1 .1 .1 .1 .0)
-    (nothing-left g (length t) (plans (found p) .numbered) room) (number-is (found p)) (rows-are p)
-    (file-written g (edition p) (e .args .number) (c .before .before .before .before .before .before .before .before .before .before .before .before .plan .result) t (c .before .before .before .before .before .before .put-header .last .0) (c .before .before .plan2 .last .1 .1 .1 .1 .0) (edition-is p) (number-is (found p)) (rows-are p)
-    (c .before .before .before .before .before .before .put-header .ensures ∙ ap (λ (u : List ℕ). written u 0 (headerFile (edition p) (e .args .number) (c .before .before .before .before .before .before .before .before .before .before .before .before .plan .result))) (c .before .before .before .before .before .before .before .before .before .before .before .before .plan .ensures .table))
-    (c .before .before .plan2 .ensures .table)
-    (omega (arith, room, schedule-length g, row-mono (g .edition) 0 (length (scheduleRows (machineOf g))) zero-le)))
+    answered-taken g (laterLines g (length t)) (e .args .used) (e .args .number) (c .before .before .before .before .before .filled .given .0 .0) t (c .before .before .put-header .last .0)
+    (nothing-left g (length t) (plans (found f) .numbered) (rows-in f .room)) (number-is (found f)) (rows-in f .count)
+    (file-written g (c .before .before .before .before .before .before .before .before .before .before .before .edition .result) (e .args .number) (c .before .before .before .before .before .filled .given .0 .0) t (c .before .before .before .before .before .before .before .before .before .fill .last .1 .1 .1 .1 .0) (c .before .before .put-header .last .0)
+    (sym (c .before .before .before .before .before .before .before .before .before .before .before .edition .ensures .right)) (number-is (found f)) (rows-in f) (c .before .before .put-header .ensures))
 
 pub lay-spec : {M : Type 1} → statement M
-lay-spec = tie.close (tie.spec (λ c κs. search needs) returns (λ c κs. search needs) plan-requires row-start-requires same-length returns-2 cast-put-header put-header-requires plan-requires-2 same-length-2 returns-3)
+lay-spec = tie.close (tie.spec (λ c κs. search needs) returns (λ c κs. search needs) fill-requires (λ c. search needs) (λ c. search needs) same-length returns-2 cast-put-header put-header-requires same-length-2 returns-3)
