@@ -5,3 +5,4 @@ pub mod After
 pub mod Above
 pub mod Fewer
 pub mod Eights
+pub mod Unique
