@@ -49,20 +49,20 @@ pub(crate) fn clear(slots: &mut [u64])
     }
 }
 
-// Looks a state up, by a walk over the slots in use.
+// Looks a state up, by a walk over the slots in use, the latest first: a state that is met again was mostly stored not long ago.
 pub(crate) fn find(slots: &[u64], used: usize, s: State) -> Found
     requires { ⌜ InOrder (now slots) used ⌝ }
     requires { ⌜ s .values < 16 ⌝ }
     ensures { λ r. ⌜ Finds (now (slots .entry)) (stateOf s) r ⌝ }
 {
     let key = key(s);
-    let mut i = 0;
-    while i < used {
+    let mut i = used;
+    while 0 < i {
+        i -= 1;
         let slot = slots[i];
         if slot & KEY == key {
             return Found::Number((slot >> NUMBER & 63) as u32);
         }
-        i += 1;
     }
     Found::Nothing
 }
