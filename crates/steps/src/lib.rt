@@ -46,8 +46,8 @@ pub fn before(a: State, b: State) -> bool
 pub fn word_count(graph: &[u8]) -> u32
     ensures { λ r. ⌜ r ≡ wordCount (content (now (graph .entry))) ⌝ }
 {
-    let n = parts::controls(graph).len();
-    if n < 32 { 1 << n } else { 0 }
+    let controls = parts::controls(graph).len();
+    if controls < 32 { 1 << controls } else { 0 }
 }
 
 // No run of legal steps is longer.
