@@ -9,7 +9,7 @@ use mathlib.Core.Bool.{not, _&&_, _||_}
 use mathlib.Core.List.{List}
 use lib.ListN.{length}
 use lib.Seq.{slice, length-slice}
-use lib.Dec.{T, eqb, leb, ltb, eqb→eq, lit<}
+use lib.Dec.{T, eqb, leb, ltb, lit<}
 use Rattle.machine.specs.Sets.{has, anyBelow}
 use Rattle.machine.proofs.Says.{Denies, says-test, denies-test, denies-leb, says-ltb, denies-ltb, says-eqb, denies-eqb, denies-not, says-and, says-or, denies-or, denies-and, denies-any}
 use Rattle.machine.specs.Refusals.{taken as accepts}
@@ -252,10 +252,6 @@ module _ {g : Graph} (w : Within g) where
 
 -- The content's counts are the header's, and within the edition's maxima.
 module _ (file : List ℕ) (f : Filed file) where
-  pub edition-one : editionOf file ≡ 1
-  unfolding known
-  edition-one = eqb→eq (editionOf file) 1 (f .edition-known)
-
   -- a part that ends within the file has the length that its ends give
   part-length : (from to : ℕ) → to ≤ fileEnd file → length (slice from to file) ≡ to - from
   part-length from to h = length-slice from to file (subst (λ (k : ℕ). to ≤ k) (sym (f .length-right)) h)

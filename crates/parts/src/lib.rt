@@ -3,9 +3,9 @@
 use numbers::byte;
 use numbers::pair;
 ghost use mathlib.Core.Path.{_≡_};
-ghost use Prim.Native.Nat.{ℕ, min, _+_, _*_, _<_, _≤_};
+ghost use Prim.Native.Nat.{min, _+_, _*_, _<_, _≤_};
 ghost use lib.Seq.{slice};
-ghost use Rattle.meaning.specs.Graph.{Graph, byteAt, known, mostOperations, mostClasses, mostControls, mostArcs, operationBytes, editionOf, operationsStart, controlsStart, arcsStart, fileEnd, content, operationCount, arcCount, limit, class, path, producer, source, target, kind, joins};
+ghost use Rattle.meaning.specs.Graph.{byteAt, known, mostOperations, mostClasses, mostControls, mostArcs, operationBytes, operationsStart, controlsStart, arcsStart, fileEnd, content, operationCount, arcCount, limit, class, path, producer, source, target, kind, joins};
 ghost use Rattle.meaning.specs.TableFile.{maskBytes, rowBytes, rowStart, mostRows};
 ghost use Rattle.numbers.specs.Reads.{Reads};
 ghost use Rattle.parts.specs.Fields.{Counted, Stands, Lent, literalsOf, IsOperation, IsArc, OfLimits, OfOperations, OfControls, OfArcs};

@@ -2,7 +2,7 @@
 use Prim.Native.Nat.{ℕ, _+_, _^_, _≤_, _<_, zero-le}
 use native.Mathlib.Nat.{lt-of-le-of-lt}
 use native.Mathlib.Omega.{arith}
-use mathlib.Core.Path.{_≡_, refl, sym, _∙_, ap, subst}
+use mathlib.Core.Path.{_≡_, sym, _∙_, ap, subst}
 use mathlib.Core.Logic.{_⊎_, inl, inr, ⊎-elim}
 use mathlib.Core.Bool.{Bool, not}
 use lib.Bits.{bitAnd, and-le-r}
@@ -10,12 +10,12 @@ use lib.Dec.{T, ltb, ltb→lt, lt→ltb}
 use borrow.Author.Tests.{le-ltb}
 use Rattle.machine.proofs.Truth.{contrary, of-false, same-test}
 use Rattle.machine.proofs.Sets.{trichotomy}
-use Rattle.meaning.specs.Graph.{Graph, operationCount}
+use Rattle.meaning.specs.Graph.{Graph}
 use Rattle.meaning.specs.Steps.{State, machineOf, legal, after}
 use Rattle.meaning.proofs.Taken.{Within}
 use Rattle.steps.specs.declared.Moves.{Moves}
 use Rattle.steps.specs.declared.Fork.{Fork}
-use Rattle.steps.specs.Moves.{movesIn, stepFrom, leastFrom}
+use Rattle.steps.specs.Moves.{movesIn, stepFrom}
 use Rattle.steps.specs.Forks.{begun, falls}
 use Rattle.steps.proofs.Above.{Least, least-from}
 use Rattle.steps.proofs.Allowed.{from-legal}

@@ -9,7 +9,7 @@ use steps::State;
 ghost use mathlib.Core.Path.{_≡_};
 ghost use mathlib.Core.Bool.{cond};
 ghost use mathlib.Core.List.{[], _∷_};
-ghost use Prim.Native.Nat.{_+_, _≤_, _<_, _^_};
+ghost use Prim.Native.Nat.{_+_, _<_, _^_};
 ghost use lib.Dec.{eqb};
 ghost use Rattle.machine.specs.Machine.{leads, finish, best};
 ghost use Rattle.meaning.specs.Graph.{Graph, content};

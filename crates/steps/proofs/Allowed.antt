@@ -1,5 +1,5 @@
 -- A step that the masks of a state allow is a legal one, and the other way round. Assumes nothing.
-use Prim.Native.Nat.{ℕ, zero, suc, min, _^_, _<_}
+use Prim.Native.Nat.{ℕ, min, _^_, _<_}
 use native.Mathlib.Nat.{lt-of-lt-of-le}
 use native.Mathlib.Omega.{arith}
 use borrow.Author.Tests.{lt-ltb}

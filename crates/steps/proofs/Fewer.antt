@@ -7,13 +7,13 @@ use mathlib.Core.Path.{_≡_, refl, sym, _∙_, ap, subst}
 use mathlib.Core.Logic.{⊎-elim}
 use mathlib.Core.Bool.{Bool, true, false, cond, not, _&&_, _||_, or-true}
 use lib.Bits.{bitAnd, bitOr, and-le-l, and-le-r, or-shr}
-use lib.Dec.{T, eqb, ltb, eqb→eq, leb→le, le→leb}
+use lib.Dec.{T, eqb, ltb, leb→le, le→leb}
 use lib.ListN.{getD}
 use lib.Pow.{pow-pos, high}
 use borrow.Author.Tests.{eq-eqb, lt-ltb, le-ltb}
 use Rattle.machine.specs.Sets.{has, countBelow}
 use Rattle.machine.proofs.Says.{Says, says-test, says-ltb, says-and}
-use Rattle.machine.proofs.Truth.{and-left, and-right, both, or-cases, not-and, and-not, not-not-elim, not-not-intro, true-of, of-true}
+use Rattle.machine.proofs.Truth.{and-left, and-right, both, not-and, and-not, not-not-elim, not-not-intro, true-of, of-true}
 use Rattle.machine.proofs.Sets.{le-or-lt, all-at, all-of, any-failed, none-any, count-mono, has-zero, has-above, has-mod, set-ext, member-below, set-below}
 use Rattle.masks.proofs.Bits.{has-and, has-or, has-opposite, has-power, has-shift, or-one}
 use Rattle.steps.specs.Moves.{apart, within, roomy, fits, raised, allows}

@@ -1,5 +1,4 @@
 -- `parts::edition` meets its contract. Assumes nothing.
-use mathlib.Core.Path.{refl}
 use borrow.Author.Needs.{needs}
 use Rattle.meaning.specs.Graph.{content, editionOf}
 use Rattle.parts.proofs.edition.Statement.{statement}

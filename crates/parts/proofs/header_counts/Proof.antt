@@ -1,6 +1,5 @@
 -- `parts::header_counts` meets its contract. Assumes nothing.
 use native.Mathlib.Omega.{arith}
-use mathlib.Core.Path.{refl}
 use Rattle.meaning.specs.Graph.{byteAt, operationsOf, classesOf, controlsOf}
 use borrow.Author.Needs.{needs}
 use Rattle.parts.proofs.header_counts.Statement.{statement}

@@ -1,15 +1,15 @@
 -- `scheduler::lay` meets its contract. Assumes nothing.
-use Prim.Native.Nat.{ℕ, suc, _≤_, _<_, zero-le}
+use Prim.Native.Nat.{ℕ, _≤_, _<_, zero-le}
 use native.Mathlib.Nat.{le-trans}
 use native.Mathlib.Omega.{arith}
-use mathlib.Core.Path.{_≡_, sym, _∙_, ap, subst}
+use mathlib.Core.Path.{_≡_, sym, _∙_, subst}
 use mathlib.Core.List.{List}
 use lib.ListN.{length}
 use Rattle.machine.specs.Machine.{remaining}
 use Rattle.machine.specs.Tables.{scheduleRows}
 use Rattle.meaning.specs.Graph.{Graph, content}
 use Rattle.meaning.specs.Steps.{machineOf}
-use Rattle.meaning.specs.TableFile.{mostRows, rowStart, scheduleFile}
+use Rattle.meaning.specs.TableFile.{mostRows, rowStart}
 use Rattle.meaning.proofs.Taken.{few-operations}
 use Rattle.scheduler.specs.declared.Scheduled.the-variants.{Refused}
 use Rattle.scheduler.specs.Rows.{Planning}

@@ -8,7 +8,7 @@ use borrow.Author.Count.{below-none, below-more}
 use borrow.Author.Tests.{not-true, not-false}
 use Rattle.machine.specs.Sets.{has}
 use Rattle.machine.proofs.Loops.{SoFar, all-broken, all-done}
-use Rattle.meaning.specs.Graph.{content, operationCount}
+use Rattle.meaning.specs.Graph.{content}
 use Rattle.meaning.specs.Steps.{State, excluded, complete}
 use Rattle.steps.specs.States.{stateOf}
 use borrow.Author.Needs.{needs}

@@ -2,7 +2,6 @@
 use Prim.Native.Nat.{ℕ, _-_, _^_, _<_}
 use native.Mathlib.Omega.{arith}
 use mathlib.Core.Path.{sym, _∙_, ap, ap₂}
-use mathlib.Core.List.{List}
 use lib.Bits.{bitAnd}
 use lib.Dec.{ltb}
 use Rattle.machine.specs.Sets.{maskBelow}

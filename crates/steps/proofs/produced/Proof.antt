@@ -7,7 +7,7 @@ use lib.Dec.{ltb}
 use lib.ListN.{length}
 use Rattle.machine.specs.Sets.{has, maskBelow}
 use Rattle.masks.proofs.Gather.{gather-start, gather-turn}
-use Rattle.meaning.specs.Graph.{Graph, controlCount, producer}
+use Rattle.meaning.specs.Graph.{controlCount, producer}
 use Rattle.parts.specs.Fields.{OfControls}
 use Rattle.steps.specs.Moves.{produced}
 use borrow.Author.Needs.{needs}

@@ -1,15 +1,13 @@
 -- `scheduler::rows::chosen` meets its contract. The loop's invariant: the steps before `step` do not attain the bound. Assumes nothing.
 use Prim.Native.Nat.{ℕ, _+_, _-_, _≤_, _<_, zero-le}
 use native.Mathlib.Omega.{arith}
-use mathlib.Core.Path.{_≡_, sym, _∙_, ap, subst}
+use mathlib.Core.Path.{sym, _∙_, ap, subst}
 use Rattle.meaning.specs.Graph.{Graph, content}
 use Rattle.meaning.specs.Steps.{State, machineOf}
 use Rattle.steps.specs.declared.Moves.{Moves}
-use Rattle.steps.specs.Moves.{movesIn}
 use Rattle.steps.specs.States.{stateOf}
 use Rattle.steps.proofs.Allowed.{steps-all}
 use Rattle.scheduler.specs.Search.{StepFrom}
-use Rattle.scheduler.specs.Rows.{Choosing}
 use Rattle.scheduler.proofs.SearchLaws.{reachable-values}
 use Rattle.scheduler.proofs.Chosen.{number-positive, bound-small, Passed, passed-start, passed-next, passed-found, passed-some}
 use borrow.Author.Needs.{needs}

@@ -2,12 +2,11 @@
 use Prim.Native.Nat.{ℕ, suc, _≤_}
 use native.Mathlib.Omega.{arith}
 use native.Mathlib.Numerals.{add-one}
-use mathlib.Core.Path.{_≡_, sym, _∙_, ap, subst}
+use mathlib.Core.Path.{sym, _∙_, ap, subst}
 use borrow.Author.Tests.{eq-eqb, ne-eqb, not-true, not-false}
 use lib.ListN.{length}
 use Rattle.machine.specs.Tables.{Row}
 use Rattle.machine.proofs.Truth.{of-true}
-use Rattle.meaning.specs.Graph.{Graph}
 use Rattle.meaning.specs.Steps.{machineOf}
 use Rattle.meaning.specs.TableFile.{mostRows, rowStart, rowFile}
 use Rattle.steps.specs.States.{stateOf}

@@ -16,7 +16,6 @@ use Rattle.meaning.specs.Steps.{State, machineOf, complete, legal, after}
 use Rattle.meaning.proofs.Instance.{undone, rank-falls}
 use Rattle.steps.specs.declared.Moves.{Moves}
 use Rattle.steps.specs.declared.Fork.{Fork}
-use Rattle.steps.specs.Moves.{movesIn}
 use Rattle.steps.specs.States.{stateOf}
 use Rattle.steps.specs.Forks.{begun, forkOf, falls as outcome, fallen}
 use Rattle.steps.proofs.Allowed.{steps-all}

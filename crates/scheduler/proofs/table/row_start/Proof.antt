@@ -1,9 +1,8 @@
 -- `scheduler::table::row_start` meets its contract. Assumes nothing.
-use Prim.Native.Nat.{ℕ, suc, _+_, _*_}
+use Prim.Native.Nat.{ℕ, _+_, _*_}
 use native.Mathlib.Omega.{arith}
-use mathlib.Core.Path.{_≡_, sym, _∙_, ap₂}
+use mathlib.Core.Path.{sym, _∙_, ap₂}
 use borrow.Author.Needs.{needs}
-use Rattle.meaning.specs.TableFile.{rowStart}
 use Rattle.meaning.proofs.TableFile.{row-end, row-first, row-small}
 use Rattle.scheduler.proofs.table.row_start.Statement.{statement}
 use Rattle.scheduler.proofs.table.row_start.Tie as tie
