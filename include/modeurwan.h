@@ -1,7 +1,10 @@
 /* Modeurwan: schedules for control graphs, checked. Link libmodeurwan.a.
  *
- * Every function takes any input: there is nothing a caller must see to first, beyond that each pointer is good for the
- * length beside it. Files are the graph file and the table file of the project's scope document, edition 1. */
+ * Every function takes any bytes, lengths and numbers: nothing has to be tested first. A caller sees to what C's types do not
+ * say: each pointer is good for the length beside it, and is NULL only where that length is 0; a buffer that is written
+ * overlaps no other buffer of the call; slots are aligned as uint64_t. No pointer is kept after the call.
+ *
+ * Files are the graph file and the table file of the project's scope document, edition 1. */
 #ifndef MODEURWAN_H
 #define MODEURWAN_H
 
@@ -65,16 +68,19 @@ struct modeurwan_part {
     size_t start, end;
 };
 
-/* Reads a graph file: refusals 1 to 11. */
+/* Reads a graph file: refusals 1 to 11. No graph (NULL, 0) is refused by 1, here and in every function below. */
 struct modeurwan_reading modeurwan_read(const uint8_t *graph, size_t graph_length);
 
 /* Schedules a graph file: refusals 1 to 14, or the shortest table, written to the front of `table`, with its cycles, rows
  * and the number of reachable states. Each slot pays for one reachable state and may come with any content. After refusals
- * 1 to 11 both buffers hold what they held; after any other answer all slots are 0, and only success changes `table`. */
+ * 1 to 11 both buffers hold what they held; after any other answer all slots are 0, and only success changes `table`.
+ * `graph`, `slots` and `table` do not overlap. No slots (NULL, 0) are refused by 12, and no room (NULL, 0) by 14 where there is
+ * a schedule. */
 struct modeurwan_answer modeurwan_schedule(const uint8_t *graph, size_t graph_length, uint64_t *slots, size_t slot_count,
                                            uint8_t *table, size_t table_room);
 
-/* Checks a table file for a graph file: refusals 1 to 11 and 15 to 20, or success with the table's cycles and rows. */
+/* Checks a table file for a graph file: refusals 1 to 11 and 15 to 20, or success with the table's cycles and rows. Nothing is
+ * written, so graph and table may overlap. No table (NULL, 0) is refused by 15. */
 struct modeurwan_answer modeurwan_check(const uint8_t *graph, size_t graph_length, const uint8_t *table,
                                         size_t table_length);
 

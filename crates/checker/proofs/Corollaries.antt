@@ -3,7 +3,7 @@
 use Prim.Native.Nat.{ℕ, _+_, _-_, _≤_, _<_}
 use native.Mathlib.Omega.{arith}
 use mathlib.Core.Path.{_≡_, refl, sym, _∙_, ap, ap₂, subst}
-use mathlib.Core.Logic.{_↔_}
+use mathlib.Core.Logic.{_↔_, Iff·trans}
 use mathlib.Core.List.{List, _++_}
 use lib.ListN.{length, drop, length-drop}
 use lib.Seq.{length-take-le}
@@ -12,10 +12,11 @@ use Rattle.machine.specs.Refusals.{taken, refused}
 use Rattle.machine.specs.Machine.{remaining}
 use Rattle.machine.specs.Tables.{Sound}
 use Rattle.machine.proofs.Refusals.{Given, judge-refused}
+use Rattle.machine.proofs.Clock.{SoundByClock}
 use Rattle.meaning.specs.Graph.{content}
 use Rattle.meaning.specs.TableFile.{cyclesOf, rowsOf, tableIn}
 use Rattle.meaning.specs.Answers.{answer, graphLines, graphVerdict, tableLines, checkVerdict, checker, Part, rowsOfCycle}
-use Rattle.meaning.proofs.Demands.{machineIn, WellLaid, accepted-exactly, accepted-least}
+use Rattle.meaning.proofs.Demands.{machineIn, WellLaid, accepted-exactly, accepted-by-clock, accepted-least}
 use Rattle.meaning.proofs.Query.{HoldsCycle, query-rows}
 use Rattle.checker.specs.declared.Checked.{Checked}
 use Rattle.checker.specs.declared.Checked.the-variants.{Refused, Accepted}
@@ -51,9 +52,12 @@ module _ (file table : List ℕ) (r : Checked) (promised : valuesOf r ≡ checke
     -- Demand 3: a table that is well laid out and ordered is accepted exactly when it is sound.
     pub sound-exactly : WellLaid file ok table
         → (r ≡ Accepted (cyclesOf table) (rowsOf table)) ↔ Sound (machineIn file ok) (tableIn (content file) table)
-    sound-exactly laid =
-        let s = accepted-exactly file ok table laid in
-        (λ e. s .0 (accepts-exactly .0 e), λ t. accepts-exactly .1 (s .1 t))
+    sound-exactly laid = Iff·trans accepts-exactly (accepted-exactly file ok table laid)
+
+    -- The same clock by clock.
+    pub clock-exactly : WellLaid file ok table
+        → (r ≡ Accepted (cyclesOf table) (rowsOf table)) ↔ SoundByClock (machineIn file ok) (tableIn (content file) table)
+    clock-exactly laid = Iff·trans accepts-exactly (accepted-by-clock file ok table laid)
 
     -- No accepted table has fewer cycles than the start's remaining number.
     pub cycles-least : r ≡ Accepted (cyclesOf table) (rowsOf table)

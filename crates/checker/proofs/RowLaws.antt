@@ -1,6 +1,6 @@
--- Where rows stand, their order, and the last row's cycle, as the code finds them. Assumes nothing.
-use Prim.Native.Nat.{ℕ, suc, min, _+_, _-_, _*_, _^_, _≤_, _<_}
-use native.Mathlib.Nat.{le-antisymm, mul-zero, mul-le-mul-right}
+-- The order of rows, the last row's cycle, and where a cycle's rows begin, as the code finds them. Assumes nothing.
+use Prim.Native.Nat.{ℕ, suc, _+_, _-_, _≤_, _<_}
+use native.Mathlib.Nat.{le-antisymm}
 use native.Mathlib.Omega.{arith}
 use mathlib.Core.Path.{_≡_, refl, sym, _∙_, ap}
 use mathlib.Core.Bool.{Bool, false, cond, not}
@@ -13,36 +13,10 @@ use Rattle.machine.specs.Tables.{Row, rises, lastCycle, orderLine}
 use Rattle.machine.proofs.Loops.{SoFar, count-more}
 use Rattle.meaning.specs.Graph.{Graph, content}
 use Rattle.meaning.specs.Steps.{machineOf}
-use Rattle.meaning.specs.TableFile.{rowsOf, maskBytes, rowBytes, rowStart, tableIn}
+use Rattle.meaning.specs.TableFile.{rowsOf, rowStart, tableIn}
 use Rattle.meaning.specs.Answers.{cycleStart}
 use Rattle.checker.specs.declared.rows.Row.{Row as Fields}
 use Rattle.checker.specs.Rows.{rowOf, Holds}
-
--- Where the rows of an edition stand, and that the code's numbers have room for it.
-module _ (edition : ℕ) where
-  pub first-place : rowStart edition 1 ≡ 8
-  unfolding rowStart
-  first-place = rw (mul-zero (rowBytes edition)) refl
-
-  pub later-place : (i : ℕ) → rowStart edition (suc i) ≡ rowStart edition 1 + rowBytes edition * i
-  unfolding rowStart
-  later-place i =
-      let e : suc i - 1 ≡ i = omega arith in
-      rw (e, mul-zero (rowBytes edition)) refl
-
-  -- no mask has more bytes than `numbers::number` reads
-  pub mask-whole : min (maskBytes edition) 4 ≡ maskBytes edition
-  unfolding maskBytes
-  mask-whole = refl
-
-  pub rows-small : (size i : ℕ) → size ≡ rowBytes edition → i < 2 ^ 16 → size * i < 2 ^ 20
-  unfolding rowBytes
-  rows-small size i e h =
-      let ten : size ≤ 10 = omega (arith, mask-whole) in
-      omega (arith, mul-le-mul-right i ten)
-
-  pub place-small : (at i : ℕ) → at ≡ rowStart edition (suc i) → i < 2 ^ 16 → at < 2 ^ 21
-  place-small at i e h = omega (arith, first-place, later-place i, rows-small (rowBytes edition) i refl h)
 
 module _ (g : Graph) (table : List ℕ) where
   -- refusal 16

@@ -13,10 +13,6 @@ use Rattle.meaning.specs.TableFile.{rowsOf, tableIn}
 use Rattle.steps.specs.States.{stateOf}
 use Rattle.checker.specs.declared.rows.Row.{Row as Fields}
 
--- What is said of every graph of an edition.
-abbrev pub OfEdition : ℕ → (Graph → Type 0) → Type 0
-OfEdition edition P = (g : Graph) → g .edition ≡ edition → P g
-
 -- the row that the fields hold
 unfoldable pub rowOf : (g : Graph) → Fields → Row (machineOf g)
 rowOf g r = record { cycle = r .cycle; state = stateOf (r .state); step = r .step }

@@ -55,7 +55,7 @@ pub fn check(graph: &[u8], table: &[u8]) -> Checked
             Fault::At { number, place } => Checked::Refused { number, place },
             Fault::Passed => Checked::Accepted {
                 cycles: rows::cycles(table),
-                rows: rows::row_count(table),
+                rows: parts::row_count(table) as usize,
             },
         },
     }

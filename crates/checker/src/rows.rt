@@ -1,27 +1,25 @@
 // The rows of a table file: what stands in them, their order, and searches over them.
 use masks::Set;
 use numbers::byte;
-use numbers::number;
 use numbers::pair;
-use parts::mask_bytes;
 use parts::most_rows;
-use parts::row_bytes;
-use parts::rows_start;
+use parts::row_count;
+use parts::row_start;
 use reader::Fault;
 use steps::State;
 ghost use mathlib.Core.Path.{_≡_};
-ghost use Prim.Native.Nat.{ℕ, suc, _^_, _<_};
+ghost use Prim.Native.Nat.{ℕ, suc};
 ghost use mathlib.Core.List.{List, [], _∷_};
 ghost use Rattle.machine.specs.Refusals.{judge};
 ghost use Rattle.machine.specs.Tables.{rises, standsAt, hasRow, lastCycle, orderLine};
 ghost use Rattle.meaning.specs.Graph.{Graph, content};
 ghost use Rattle.meaning.specs.Steps.{machineOf};
-ghost use Rattle.meaning.specs.TableFile.{cyclesOf, rowsOf, rowStart, layoutLine, tableIn};
+ghost use Rattle.meaning.specs.TableFile.{cyclesOf, layoutLine, tableIn};
 ghost use Rattle.meaning.specs.Answers.{cycleStart};
+ghost use Rattle.parts.specs.Fields.{OfEdition};
 ghost use Rattle.reader.specs.Reading.{verdictOf};
-ghost use Rattle.numbers.specs.Reads.{Reads};
 ghost use Rattle.steps.specs.States.{stateOf};
-ghost use Rattle.checker.specs.Rows.{OfEdition, RowAt, rowOf};
+ghost use Rattle.checker.specs.Rows.{RowAt, rowOf};
 
 // A row's bytes as numbers.
 pub(crate) struct Row {
@@ -37,36 +35,19 @@ pub(crate) fn cycles(table: &[u8]) -> u32
     byte(table, 3)
 }
 
-// The rows that the header says.
-pub(crate) fn row_count(table: &[u8]) -> usize
-    ensures { λ r. ⌜ Reads (rowsOf (now (table .entry))) 2 r ⌝ }
-{
-    pair(table, 4) as usize
-}
-
-// Where row i + 1 stands, so the row after i others.
-fn row_place(edition: u32, i: usize) -> usize
-    requires { ⌜ i < 2 ^ 16 ⌝ }
-    ensures { λ r. ⌜ r ≡ rowStart edition (suc i) ⌝ }
-{
-    rows_start(edition) + row_bytes(edition) * i
-}
-
 // Row i + 1.
-pub(crate) fn row_at(edition: u32, table: &[u8], i: usize) -> Row
-    requires { ⌜ i < 2 ^ 16 ⌝ }
+pub(crate) fn row_at(edition: u32, table: &[u8], i: u32) -> Row
     ensures { λ r. ⌜ OfEdition edition (λ g. RowAt g (now (table .entry)) (suc i) r) ⌝ }
 {
-    let at = row_place(edition, i);
-    let size = mask_bytes(edition);
+    let r = parts::row_at(edition, table, i);
     let state = State {
-        done: number(table, at + 2, size),
-        values: byte(table, at + 1),
+        done: r.done,
+        values: r.values,
     };
     Row {
-        cycle: byte(table, at),
+        cycle: r.cycle,
         state,
-        step: number(table, at + 2 + size, size),
+        step: r.step,
     }
 }
 
@@ -75,12 +56,12 @@ pub(crate) fn misshapen(edition: u32, table: &[u8]) -> bool
     ensures { λ r. ⌜ r ≡ layoutLine edition (now (table .entry)) .fault 0 ⌝ }
 {
     let n = row_count(table);
-    let start = rows_start(edition);
+    let start = row_start(edition, 0);
     (table.len() < start)
         | !((byte(table, 0) == 0x48) & (byte(table, 1) == 0x54) & (byte(table, 2) == edition))
         | !(pair(table, 6) as usize == start)
         | (most_rows(edition) < n)
-        | !(table.len() == row_place(edition, n))
+        | !(table.len() == row_start(edition, n))
 }
 
 // Row a stands before row b: by cycle, then by their states' order.
@@ -99,7 +80,7 @@ pub(crate) fn disorder(edition: u32, table: &[u8]) -> Fault
         if !rises(row_at(edition, table, i - 1), row_at(edition, table, i)) {
             return Fault::At {
                 number: 16,
-                place: i + 1,
+                place: i as usize + 1,
             };
         }
     }
@@ -107,8 +88,7 @@ pub(crate) fn disorder(edition: u32, table: &[u8]) -> Fault
 }
 
 // Row i + 1 stands at cycle t with this state.
-fn stands_at(edition: u32, table: &[u8], t: u32, s: State, i: usize) -> bool
-    requires { ⌜ i < 2 ^ 16 ⌝ }
+fn stands_at(edition: u32, table: &[u8], t: u32, s: State, i: u32) -> bool
     ensures { λ r. ⌜ OfEdition edition (λ g. r ≡ standsAt (machineOf g) (tableIn g (now (table .entry))) t (stateOf s) (suc i)) ⌝ }
 {
     let r = row_at(edition, table, i);
@@ -150,5 +130,5 @@ pub(crate) fn cycle_start(edition: u32, table: &[u8], t: u32) -> usize
             earlier += 1;
         }
     }
-    row_place(edition, earlier)
+    row_start(edition, earlier)
 }

@@ -4,13 +4,13 @@ use crate::rows::cycles;
 use crate::rows::has_row;
 use crate::rows::last_cycle;
 use crate::rows::row_at;
-use crate::rows::row_count;
+use parts::row_count;
 use reader::Fault;
 use steps::Fork;
 use steps::State;
 ghost use mathlib.Core.Path.{_≡_};
 ghost use mathlib.Core.List.{[], _∷_};
-ghost use Prim.Native.Nat.{suc, _^_, _<_};
+ghost use Prim.Native.Nat.{suc};
 ghost use Rattle.machine.specs.Sets.{anyBelow, listBelow};
 ghost use Rattle.machine.specs.Refusals.{judge};
 ghost use Rattle.machine.specs.Tables.{follows, continues, soundLines};
@@ -24,8 +24,7 @@ ghost use Rattle.steps.specs.Forks.{wordCount, fallen};
 ghost use Rattle.checker.specs.Rows.{RowAt, rowOf, cameFrom, covered, unfounded, rowLines, gapLine};
 
 // Row i + 1 of the table.
-fn row_in(graph: &[u8], table: &[u8], i: usize) -> Row
-    requires { ⌜ i < 2 ^ 16 ⌝ }
+fn row_in(graph: &[u8], table: &[u8], i: u32) -> Row
     ensures { λ r. ⌜ RowAt (content (now (graph .entry))) (now (table .entry)) (suc i) r ⌝ }
 {
     row_at(parts::edition(graph), table, i)
@@ -55,8 +54,8 @@ fn leads(graph: &[u8], fork: Fork, s: State) -> bool
 }
 
 // The row of another state, one cycle later, may come from row i + 1.
-fn comes_from(graph: &[u8], table: &[u8], i: usize, p: Row) -> bool
-    requires { ⌜ Within (content (now graph)) × (i < 2 ^ 16) ⌝ }
+fn comes_from(graph: &[u8], table: &[u8], i: u32, p: Row) -> bool
+    requires { ⌜ Within (content (now graph)) ⌝ }
     ensures { λ r.
         ⌜ (let g = content (now (graph .entry)) in
         r ≡ cameFrom g (now (table .entry)) (suc i) (rowOf g p)) ⌝ }
@@ -69,8 +68,8 @@ fn comes_from(graph: &[u8], table: &[u8], i: usize, p: Row) -> bool
 }
 
 // Row i + 1 is the start at cycle 1, or a next state of a row one cycle earlier.
-fn follows(graph: &[u8], table: &[u8], i: usize) -> bool
-    requires { ⌜ Within (content (now graph)) × (i < 2 ^ 16) ⌝ }
+fn follows(graph: &[u8], table: &[u8], i: u32) -> bool
+    requires { ⌜ Within (content (now graph)) ⌝ }
     ensures { λ r.
         ⌜ (let g = content (now (graph .entry)) in
         r ≡ follows (machineOf g) (tableIn g (now (table .entry))) (suc i)) ⌝ }
@@ -89,8 +88,8 @@ fn follows(graph: &[u8], table: &[u8], i: usize) -> bool
 }
 
 // Every next state of row i + 1 is complete or has a row in the next cycle.
-fn continues(graph: &[u8], table: &[u8], i: usize) -> bool
-    requires { ⌜ Within (content (now graph)) × (i < 2 ^ 16) ⌝ }
+fn continues(graph: &[u8], table: &[u8], i: u32) -> bool
+    requires { ⌜ Within (content (now graph)) ⌝ }
     ensures { λ r.
         ⌜ (let g = content (now (graph .entry)) in
         r ≡ continues (machineOf g) (tableIn g (now (table .entry))) (suc i)) ⌝ }
@@ -116,8 +115,8 @@ fn lawful(graph: &[u8], p: Row) -> bool
 }
 
 // Row i + 1 is complete, or it does not follow.
-fn unfounded(graph: &[u8], table: &[u8], i: usize) -> bool
-    requires { ⌜ Within (content (now graph)) × (i < 2 ^ 16) ⌝ }
+fn unfounded(graph: &[u8], table: &[u8], i: u32) -> bool
+    requires { ⌜ Within (content (now graph)) ⌝ }
     ensures { λ r. ⌜ r ≡ unfounded (content (now (graph .entry))) (now (table .entry)) i ⌝ }
 {
     let p = row_in(graph, table, i);
@@ -128,8 +127,8 @@ fn unfounded(graph: &[u8], table: &[u8], i: usize) -> bool
 }
 
 // Refusals 17 and 18 of row i + 1.
-fn row_fault(graph: &[u8], table: &[u8], i: usize) -> Fault
-    requires { ⌜ Within (content (now graph)) × (i < 2 ^ 16) ⌝ }
+fn row_fault(graph: &[u8], table: &[u8], i: u32) -> Fault
+    requires { ⌜ Within (content (now graph)) ⌝ }
     ensures { λ r. ⌜ verdictOf r ≡ judge (rowLines (content (now (graph .entry))) (now (table .entry)) i) ⌝ }
 {
     let stray = unfounded(graph, table, i);
@@ -138,13 +137,13 @@ fn row_fault(graph: &[u8], table: &[u8], i: usize) -> Fault
     if stray {
         return Fault::At {
             number: 17,
-            place: i + 1,
+            place: i as usize + 1,
         };
     }
     if broken {
         return Fault::At {
             number: 18,
-            place: i + 1,
+            place: i as usize + 1,
         };
     }
     Fault::Passed
@@ -186,7 +185,7 @@ fn gap(graph: &[u8], table: &[u8]) -> Fault
         if !continues(graph, table, i) {
             return Fault::At {
                 number: 19,
-                place: i + 1,
+                place: i as usize + 1,
             };
         }
     }

@@ -1,5 +1,6 @@
 pub mod Truth
 pub mod Sets
+pub mod Choices
 pub mod Loops
 pub mod Says
 pub mod Refusals
@@ -7,6 +8,7 @@ pub mod Lawful
 pub mod Finish
 pub mod Reach
 pub mod Runs
+pub mod Clock
 pub mod Rising
 pub mod Search
 pub mod Lookup

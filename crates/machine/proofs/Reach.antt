@@ -1,16 +1,17 @@
--- The list of reachable states holds exactly these, each once, so its length is their number. Assumes nothing.
+-- What the number of states with a property is; the list of reachable states holds exactly these, each once, so its length
+-- is their number. Assumes nothing.
 use Prim.Native.Nat.{ℕ, zero, suc, _+_, _≤_, _<_, zero-le}
 use native.Mathlib.Nat.{le-antisymm}
 use native.Mathlib.Omega.{arith}
 use mathlib.Core.Path.{_≡_, refl, sym, _∙_, ap, subst}
 use mathlib.Core.Logic.{_⊎_, inl, inr, ⊎-elim, ⊎-map}
 use mathlib.Core.Bool.{Bool, true, false, cond, not}
-use mathlib.Core.List.{List, [], _∷_, List·Memᴰ, List·Memᴰ·head, List·Memᴰ·tail, List·Memᴰ·cases-cons, List·Memᴰ·eq-of-singleton, List·Memᴰ·not-nil, Memᴰ·cast, flatMap, Memᴰ·append-left, Memᴰ·append-right, List·Memᴰ·append-cases}
+use mathlib.Core.List.{List, [], _∷_, List·Memᴰ, List·Memᴰ·head, List·Memᴰ·tail, List·Memᴰ·cases-cons, List·Memᴰ·eq-of-singleton, List·Memᴰ·not-nil, Memᴰ·cast, flatMap, Memᴰ·append-left, Memᴰ·append-right, List·Memᴰ·append-cases, List·Nodup, Pairwise·nil, Pairwise·cons}
 use lib.ListN.{length}
 use lib.Dec.{T}
 use Rattle.machine.specs.Sets.{listBelow}
 use Rattle.machine.specs.Machine.{Machine, Reachable, holds, added, successors, reached, stateCount}
-use Rattle.machine.proofs.Truth.{or-cases, or-left, or-right, contrary, true-of, of-true}
+use Rattle.machine.proofs.Truth.{or-cases, or-left, or-right, contrary, refuted, true-of, of-true}
 use Rattle.machine.proofs.Sets.{mem-list, list-mem}
 use Rattle.machine.proofs.Lawful.{Lawful}
 use Rattle.machine.proofs.Finish.{later}
@@ -48,13 +49,28 @@ module _ (M : Machine) where
     none : Distinct []
     more : {s : M .State} {ss : List (M .State)} → T (not (holds M ss s)) → Distinct ss → Distinct (s ∷ ss)
 
-  -- What it means that n is the number of reachable states: a list of n states holds exactly these, each once.
-  pub record Counts (n : ℕ) : Type 0 where
+  -- What it means that n is the number of states with the property P: a list of n states holds exactly these, each once.
+  pub record CountOf (P : M .State → Type 0) (n : ℕ) : Type 0 where
     pub list : List (M .State)
     pub size : length list ≡ n
     pub distinct : Distinct list
-    pub listed : (s : M .State) → Reachable M s → T (holds M list s)
-    pub reachable : (s : M .State) → T (holds M list s) → Reachable M s
+    pub listed : (s : M .State) → P s → T (holds M list s)
+    pub only : (s : M .State) → T (holds M list s) → P s
+
+  -- as many have another property, if the same states have it
+  pub count-same : {P Q : M .State → Type 0} {n : ℕ} → ((s : M .State) → P s → Q s) → ((s : M .State) → Q s → P s) → CountOf P n → CountOf Q n
+  count-same to from c =
+      record {
+        list = c .list;
+        size = c .size;
+        distinct = c .distinct;
+        listed = λ s q. c .listed s (from s q);
+        only = λ s h. to s (c .only s h);
+      }
+
+  -- n is the number of reachable states
+  abbrev pub Counts : ℕ → Type 0
+  Counts = CountOf (Reachable M)
 
 module _ (M : Machine) (L : Lawful M) where
   -- `holds` is membership
@@ -70,6 +86,12 @@ module _ (M : Machine) (L : Lawful M) where
   mem-holds {s = s} (List·Memᴰ·head {x = r} {xs = rs} e) =
       or-left (M .same r s) (holds M rs s) (subst (λ (q : M .State). T (M .same q s)) e (L .eq-same s))
   mem-holds {s = s} (List·Memᴰ·tail {x = r} {xs = rs} m) = or-right (M .same r s) (holds M rs s) (mem-holds m)
+
+  -- a list whose states differ in pairs repeats none
+  pub differ-distinct : {l : List (M .State)} → List·Nodup l → Distinct M l
+  differ-distinct Pairwise·nil = none
+  differ-distinct (Pairwise·cons {a = s} {l = ss} f d) =
+      more (refuted (holds M ss s) (λ h. f s ∣ holds-mem ss s h ∣₁ refl)) (differ-distinct d)
 
   -- `added` holds the states of both lists and no others, and repeats none
   added-kept : {s : M .State} (ss l : List (M .State)) → List·Memᴰ s l → List·Memᴰ s (added M ss l)
@@ -191,18 +213,13 @@ module _ (M : Machine) (L : Lawful M) where
             (λ (o : List·Memᴰ q (r .0)). o) (r .2 q (f q (List·Memᴰ·tail k)))),
       )
 
-  -- distinct reachable states are at most as many as the states counted, and exactly as many if there are no others
-  module _ (l : List (M .State)) (d : Distinct M l) (f : (s : M .State) → T (holds M l s) → Reachable M s) where
-    pub distinct-length : length l ≤ stateCount M
-    unfolding stateCount
-    distinct-length =
-        distinct-within l (reached M (M .horizon)) d (λ s m. holds-mem (reached M (M .horizon)) s (reachable-listed s (f s (mem-holds m))))
-
-    pub distinct-all : ((s : M .State) → Reachable M s → T (holds M l s)) → length l ≡ stateCount M
-    unfolding stateCount
-    distinct-all g =
-        le-antisymm distinct-length
-        (distinct-within (reached M (M .horizon)) l (reached-distinct (M .horizon)) (λ s m. holds-mem l s (g s (mem-reachable (M .horizon) s m))))
+  -- only one number is that of the states with a property
+  pub number-unique : {P : M .State → Type 0} {m n : ℕ} → CountOf M P m → CountOf M P n → m ≡ n
+  number-unique a b = sym (a .size) ∙ le-antisymm (fewer a b) (fewer b a) ∙ b .size
+    where
+      fewer : {P : M .State → Type 0} {m n : ℕ} (a : CountOf M P m) (b : CountOf M P n) → length (a .list) ≤ length (b .list)
+      fewer a b =
+          distinct-within (a .list) (b .list) (a .distinct) (λ s m. holds-mem (b .list) s (b .listed s (a .only s (mem-holds m))))
 
   -- the count is the number of distinct reachable states, and no other number is
   pub state-count : Counts M (stateCount M)
@@ -212,8 +229,18 @@ module _ (M : Machine) (L : Lawful M) where
     size = refl;
     distinct = reached-distinct (M .horizon);
     listed = reachable-listed;
-    reachable = listed-reachable (M .horizon);
+    only = listed-reachable (M .horizon);
   }
 
   pub count-unique : (n : ℕ) → Counts M n → n ≡ stateCount M
-  count-unique n c = sym (c .size) ∙ distinct-all (c .list) (c .distinct) (c .reachable) (c .listed)
+  count-unique n c = number-unique c state-count
+
+  -- distinct reachable states are at most as many as the states counted, and exactly as many if there are no others
+  module _ (l : List (M .State)) (d : Distinct M l) (f : (s : M .State) → T (holds M l s) → Reachable M s) where
+    pub distinct-length : length l ≤ stateCount M
+    unfolding stateCount
+    distinct-length =
+        distinct-within l (reached M (M .horizon)) d (λ s m. holds-mem (reached M (M .horizon)) s (reachable-listed s (f s (mem-holds m))))
+
+    pub distinct-all : ((s : M .State) → Reachable M s → T (holds M l s)) → length l ≡ stateCount M
+    distinct-all g = count-unique (length l) (record { list = l; size = refl; distinct = d; listed = g; only = f })

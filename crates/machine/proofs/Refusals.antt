@@ -6,8 +6,8 @@ use native.Mathlib.Nat.{le-refl, lt-suc-self, not-suc-le-zero}
 use native.Mathlib.Numerals.{add-one}
 use native.Mathlib.Omega.{arith}
 use mathlib.Core.Path.{_≡_, refl, sym, _∙_, ap, ap₂, subst, subst₂}
-use mathlib.Core.Logic.{_⊎_, inl, inr, ⊎-elim, _↔_}
-use mathlib.Core.Bool.{Bool, true, false, cond, not, _&&_}
+use mathlib.Core.Logic.{_⊎_, inl, inr, ⊎-elim, _↔_, Iff·rfl, Iff·symm, Iff·trans, Iff·and}
+use mathlib.Core.Bool.{Bool, true, false, cond, not, _&&_, _||_}
 use mathlib.Core.List.{List, [], _∷_, _++_}
 use lib.Dec.{T, eqb, ltb, eqb-refl}
 use lib.ListN.{length, drop, getD}
@@ -15,8 +15,9 @@ use lib.Seq.{drop-cons}
 use borrow.Author.Tests.{lt-ltb, le-ltb, ne-eqb}
 use Rattle.machine.specs.Sets.{firstBelow, anyBelow, listBelow}
 use Rattle.machine.specs.Refusals.{Line, placeless, lineAt, Verdict, taken, refused, judge}
-use Rattle.machine.proofs.Truth.{both, and-not, decided, true-of, false-of, of-true, of-false}
+use Rattle.machine.proofs.Truth.{both, or-left, or-right, not-or-left, not-or-right, and-not, decided, contrary, true-of, false-of, of-true, of-false}
 use Rattle.machine.proofs.Sets.{First, first-none, first-some, first-unique, any-failed, none-any, below-cases}
+use Rattle.machine.proofs.Says.{Says, Denies, says-eqb}
 use Rattle.machine.proofs.Loops.{SoFar}
 
 -- no place of the line is at fault
@@ -110,6 +111,66 @@ pass-append ls ms = (to ls, λ h. from (h .0) (h .1))
     from : {ls : List Line} → AllPass ls → AllPass ms → AllPass (ls ++ ms)
     from none k = k
     from (and h r) k = and h (from r k)
+
+-- a line of the table has the number; one that gives it has
+unfoldable pub numbered : ℕ → List Line → Bool
+numbered k [] = false
+numbered k (l ∷ ls) = eqb (l .number) k || numbered k ls
+
+given-numbered : {k p : ℕ} {ls : List Line} → Given k p ls → T (numbered k ls)
+unfolding numbered
+given-numbered {k} (here {l = l} {ls = ls} e h) = or-left (eqb (l .number) k) (numbered k ls) (says-eqb (l .number) k .from e)
+given-numbered {k} (later {l = l} {ls = ls} h r) = or-right (eqb (l .number) k) (numbered k ls) (given-numbered r)
+
+given-past : (k p : ℕ) (ls ms : List Line) → T (not (numbered k ls)) → Given k p (ls ++ ms) ↔ (AllPass ls × Given k p ms)
+unfolding numbered
+given-past k p ls ms t = (to ls t, λ h. from (h .0) (h .1))
+  where
+    to : (ls : List Line) → T (not (numbered k ls)) → Given k p (ls ++ ms) → AllPass ls × Given k p ms
+    to [] t g = (none, g)
+    to (l ∷ ls) t (here e h) =
+        absurd (contrary (eqb (l .number) k) (says-eqb (l .number) k .from e) (not-or-left (eqb (l .number) k) (numbered k ls) t))
+    to (l ∷ ls) t (later h r) =
+        let q = to ls (not-or-right (eqb (l .number) k) (numbered k ls) t) r in
+        (and h (q .0), q .1)
+
+    from : {ls : List Line} → AllPass ls → Given k p ms → Given k p (ls ++ ms)
+    from none g = g
+    from (and h r) g = later h (from r g)
+
+-- Two tables one after the other are taken exactly when both are. A number that no line of the first has is given exactly
+-- when the first is taken and the second gives it.
+pub taken-past : (ls ms : List Line) → (judge (ls ++ ms) ≡ taken) ↔ ((judge ls ≡ taken) × AllPass ms)
+taken-past ls ms =
+    Iff·trans (judge-taken (ls ++ ms)) (Iff·trans (pass-append ls ms) (Iff·and (Iff·symm (judge-taken ls)) Iff·rfl))
+
+pub refused-past : (k p : ℕ) (ls ms : List Line) → T (not (numbered k ls))
+    → (judge (ls ++ ms) ≡ refused k p) ↔ ((judge ls ≡ taken) × Given k p ms)
+refused-past k p ls ms t =
+    Iff·trans (judge-refused (ls ++ ms) k p) (Iff·trans (given-past k p ls ms t) (Iff·and (Iff·symm (judge-taken ls)) Iff·rfl))
+
+-- A line whose place is not named, in words: it passes, it passes and a later one gives the number, or it gives it.
+module _ (j : ℕ) {b : Bool} {P : Type 0} (ls : List Line) where
+  pub placeless-pass : Denies b P → AllPass (placeless j b ∷ ls) ↔ (P × AllPass ls)
+  placeless-pass d = (to, λ h. and (λ p k. d .from (h .0)) (h .1))
+    where
+      to : AllPass (placeless j b ∷ ls) → P × AllPass ls
+      to (and h r) = (d .to (h 0 (lt-suc-self 0)), r)
+
+  pub placeless-later : (k p : ℕ) → T (not (eqb j k)) → Denies b P → Given k p (placeless j b ∷ ls) ↔ (P × Given k p ls)
+  placeless-later k p t d = (to, λ h. later (λ q l. d .from (h .0)) (h .1))
+    where
+      to : Given k p (placeless j b ∷ ls) → P × Given k p ls
+      to (here e h) = absurd (contrary (eqb j k) (says-eqb j k .from e) t)
+      to (later h r) = (d .to (h 0 (lt-suc-self 0)), r)
+
+  pub placeless-here : T (not (numbered j ls)) → Says b P → Given j 0 (placeless j b ∷ ls) ↔ P
+  placeless-here t s =
+      (to, λ h. here refl (record { below = lt-suc-self 0; holds = s .from h; least = λ i l. absurd (not-suc-le-zero l) }))
+    where
+      to : Given j 0 (placeless j b ∷ ls) → P
+      to (here e h) = s .to (h .holds)
+      to (later h r) = absurd (contrary (numbered j ls) (given-numbered r) t)
 
 -- the first verdict, or the second where the first is taken
 unfoldable pub otherwise : Verdict → Verdict → Verdict

@@ -5,8 +5,8 @@ use native.Mathlib.Omega.{arith}
 use mathlib.Core.Path.{_≡_, refl, sym, _∙_, ap, ap₂, subst}
 use mathlib.Core.Logic.{_⊎_, inl, inr, ⊎-elim}
 use mathlib.Core.Bool.{Bool, true, false, cond, not, _&&_, _||_, and-true, and-false}
-use mathlib.Core.List.{List, List·Memᴰ, Memᴰ·append-left, Memᴰ·append-right, List·Memᴰ·append-cases, List·Memᴰ·not-nil}
-use lib.ListN.{length, length-append}
+use mathlib.Core.List.{List, [], _∷_, _++_, append-assoc, append-nil, flatMap, List·Memᴰ, Memᴰ·append-left, Memᴰ·append-right, List·Memᴰ·append-cases, List·Memᴰ·not-nil}
+use lib.ListN.{length, getD, length-append}
 use lib.Arith.{le→nltb}
 use lib.Dec.{T, eqb, leb, ltb, leb→le, le→leb, nleb→lt, nltb→le}
 use borrow.Author.Tests.{lt-ltb, le-ltb}
@@ -279,30 +279,32 @@ pub has-top : (m n : ℕ) → m < 2 ^ n → has (m + 2 ^ n) n ≡ true
 unfolding has
 has-top m n h = ap (λ (k : ℕ). eqb (k % 2) 1) (add-div-right m (pow-pos n) ∙ ap (λ (k : ℕ). k + 1) (div-eq-of-lt h))
 
+-- a set below 2 ^ n, with the member n where b holds
+pub join-lt : (m n : ℕ) (b : Bool) → m < 2 ^ n → m + cond b (2 ^ n) 0 < 2 ^ suc n
+join-lt m n true h = omega (arith, two-pow-succ n)
+join-lt m n false h = omega (arith, two-pow-succ n)
+
+pub join-low : (m n : ℕ) (b : Bool) (j : ℕ) → j < n → has (m + cond b (2 ^ n) 0) j ≡ has m j
+join-low m n true j l = ap (λ (k : ℕ). has (m + k) j) (sym (one-mul (2 ^ n))) ∙ has-above m 1 n j l
+join-low m n false j l = ap (λ (k : ℕ). has k j) (add-zero m)
+
+pub join-top : (m n : ℕ) (b : Bool) → m < 2 ^ n → has (m + cond b (2 ^ n) 0) n ≡ b
+join-top m n true h = has-top m n h
+join-top m n false h = ap (λ (k : ℕ). has k n) (add-zero m) ∙ has-high m n n h (le-refl n)
+
 -- the set of a test
 pub mask-lt : (n : ℕ) (f : ℕ → Bool) → maskBelow n f < 2 ^ n
 unfolding maskBelow
 mask-lt zero f = le-refl 1
-mask-lt (suc n) f = one-more (f n) (mask-lt n f)
-  where
-    one-more : (b : Bool) → maskBelow n f < 2 ^ n → maskBelow n f + cond b (2 ^ n) 0 < 2 ^ suc n
-    one-more true h = omega (arith, two-pow-succ n)
-    one-more false h = omega (arith, two-pow-succ n)
+mask-lt (suc n) f = join-lt (maskBelow n f) n (f n) (mask-lt n f)
 
 pub has-mask : (n : ℕ) (f : ℕ → Bool) (j : ℕ) → j < n → has (maskBelow n f) j ≡ f j
 unfolding maskBelow
 has-mask zero f j h = absurd (not-suc-le-zero h)
 has-mask (suc n) f j h =
-    ⊎-elim (λ (l : j < n). low (f n) l ∙ has-mask n f j l) (λ (e : j ≡ n). subst (λ (k : ℕ). has (maskBelow n f + cond (f n) (2 ^ n) 0) k ≡ f k) (sym e) (top (f n)))
+    ⊎-elim (λ (l : j < n). join-low (maskBelow n f) n (f n) j l ∙ has-mask n f j l)
+    (λ (e : j ≡ n). subst (λ (k : ℕ). has (maskBelow n f + cond (f n) (2 ^ n) 0) k ≡ f k) (sym e) (join-top (maskBelow n f) n (f n) (mask-lt n f)))
     (below-cases h)
-  where
-    low : (b : Bool) → j < n → has (maskBelow n f + cond b (2 ^ n) 0) j ≡ has (maskBelow n f) j
-    low true l = ap (λ (k : ℕ). has (maskBelow n f + k) j) (sym (one-mul (2 ^ n))) ∙ has-above (maskBelow n f) 1 n j l
-    low false l = ap (λ (k : ℕ). has k j) (add-zero (maskBelow n f))
-
-    top : (b : Bool) → has (maskBelow n f + cond b (2 ^ n) 0) n ≡ b
-    top true = has-top (maskBelow n f) n (mask-lt n f)
-    top false = ap (λ (k : ℕ). has k n) (add-zero (maskBelow n f)) ∙ has-high (maskBelow n f) n n (mask-lt n f) (le-refl n)
 
 pub has-mask-high : (n : ℕ) (f : ℕ → Bool) (j : ℕ) → n ≤ j → has (maskBelow n f) j ≡ false
 has-mask-high n f j h = has-high (maskBelow n f) n j (mask-lt n f) h
@@ -387,3 +389,22 @@ module _ {ℓ} {A : Type ℓ} where
       subst (λ (k : ℕ). k ≤ suc n * m) (sym (length-append (listBelow n f) (f n)))
       (subst (λ (k : ℕ). length (listBelow n f) + length (f n) ≤ k) (sym (suc-mul n m))
       (add-le-add (list-length n m f (λ i l. h i (omega arith))) (h n (lt-suc-self n))))
+
+  -- the same at every number below the bound, and the first list first
+  pub list-same : (n : ℕ) (f h : ℕ → List A) → ((i : ℕ) → i < n → f i ≡ h i) → listBelow n f ≡ listBelow n h
+  unfolding listBelow
+  list-same zero f h e = refl
+  list-same (suc n) f h e = ap₂ (λ (a b : List A). a ++ b) (list-same n f h (λ i l. e i (omega arith))) (e n (lt-suc-self n))
+
+  pub list-front : (n : ℕ) (f : ℕ → List A) → listBelow (suc n) f ≡ f 0 ++ listBelow n (λ i. f (suc i))
+  unfolding listBelow
+  list-front zero f = sym (append-nil (f 0))
+  list-front (suc n) f =
+      ap (λ (l : List A). l ++ f (suc n)) (list-front n f) ∙ append-assoc (f 0) (listBelow n (λ i. f (suc i))) (f (suc n))
+
+-- the lists of a list's elements, by their places
+pub list-places : {A : Type 0} {B : Type 0} (f : A → List B) (l : List A) (d : A)
+    → listBelow (length l) (λ i. f (getD l i d)) ≡ flatMap f l
+unfolding flatMap listBelow
+list-places f [] d = refl
+list-places {B = B} f (x ∷ l) d = list-front (length l) (λ i. f (getD (x ∷ l) i d)) ∙ ap (λ (m : List B). f x ++ m) (list-places f l d)

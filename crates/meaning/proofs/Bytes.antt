@@ -21,7 +21,7 @@ bytes-number (suc size) x h =
     ap (λ (k : ℕ). x % 256 + 256 * k) (bytes-number size (x / 256) (div-lt-iff-lt-mul (omega arith) .1 (rw (← pow-suc) h)))
     ∙ mod-add-div x 256
 
--- a list of bytes
+-- a list of bytes: every number in it is below 256
 pub data AreBytes : List ℕ → Type 0 where
   empty : AreBytes []
   more : {x : ℕ} {l : List ℕ} → x < 256 → AreBytes l → AreBytes (x ∷ l)

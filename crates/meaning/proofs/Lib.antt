@@ -2,7 +2,11 @@ pub mod Cases
 pub mod Taken
 pub mod Legal
 pub mod Instance
+pub mod Outcomes
 pub mod Bytes
 pub mod TableFile
 pub mod Query
 pub mod Demands
+pub mod Sentences
+pub mod Listing
+pub mod Kept

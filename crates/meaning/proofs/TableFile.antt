@@ -1,22 +1,22 @@
 -- A table file that was written is read back: its length, its counts, its rows, its layout. Assumes nothing.
 use Prim.Native.Nat.{ℕ, zero, suc, _+_, _-_, _*_, _^_, _≤_, _<_}
-use native.Mathlib.Nat.{add-zero, mul-zero, mul-suc, not-suc-le-zero}
+use native.Mathlib.Nat.{add-zero, mul-zero, mul-suc, mul-le-mul-left, not-suc-le-zero}
 use native.Mathlib.Omega.{arith}
 use mathlib.Core.Path.{_≡_, refl, sym, _∙_, ap, ap₂}
 use mathlib.Core.Bool.{Bool, true, false, not, _&&_, _||_}
-use mathlib.Core.List.{List, [], _∷_, _++_, append-assoc, List·Memᴰ, List·Memᴰ·head, List·Memᴰ·tail}
+use mathlib.Core.List.{List, [], _∷_, _++_, append-assoc, append-nil, List·Memᴰ, List·Memᴰ·head, List·Memᴰ·tail}
 use lib.ListN.{length, getD, length-append}
 use lib.Dec.{eqb, ltb, eqb→eq}
 use borrow.Author.Tests.{le-ltb, eq-eqb}
-use Rattle.machine.specs.Machine.{Machine}
-use Rattle.machine.specs.Tables.{Row, orderLine, soundLines}
+use Rattle.machine.specs.Machine.{Machine, remaining}
+use Rattle.machine.specs.Tables.{Row, orderLine, soundLines, scheduleRows}
 use Rattle.machine.proofs.Truth.{not-or-right, not-not-elim}
 use Rattle.machine.proofs.Refusals.{Passes, AllPass, and}
 use Rattle.machine.proofs.Views.{order-view, lines-view}
 use Rattle.machine.proofs.Rising.{tableOf}
 use Rattle.meaning.specs.Graph.{Graph, byteAt, littleEndian, numberAt}
 use Rattle.meaning.specs.Steps.{machineOf}
-use Rattle.meaning.specs.TableFile.{maskBytes, rowBytes, mostRows, rowStart, cyclesOf, rowsOf, layoutLine, tableIn, bytesOf, headerFile, rowFile, rowFiles, tableFile}
+use Rattle.meaning.specs.TableFile.{maskBytes, rowBytes, mostRows, rowStart, cyclesOf, rowsOf, layoutLine, tableIn, bytesOf, headerFile, rowFile, rowFiles, tableFile, scheduleFile}
 use Rattle.meaning.specs.Answers.{tableLines}
 use Rattle.meaning.proofs.Bytes.{AreBytes, empty, more, append-small, bytes-small, bytes-length, bytes-number, byte-at, byte-after, number-at, number-after}
 
@@ -30,6 +30,11 @@ pub row-end : (edition n : ℕ) → rowStart edition (suc n) ≡ 8 + rowBytes ed
 unfolding rowStart
 row-end edition n = ap (λ (k : ℕ). 8 + rowBytes edition * k) (omega arith)
 
+-- n rows end at 8 + 8n, in every edition so far
+pub row-eights : (edition n : ℕ) → rowStart edition (suc n) ≡ 8 + 8 * n
+unfolding rowBytes maskBytes
+row-eights edition n = row-end edition n
+
 -- before the first
 pub row-first : (edition : ℕ) → rowStart edition 1 ≡ 8
 row-first edition = rw (row-end, mul-zero) refl
@@ -38,10 +43,9 @@ row-first edition = rw (row-end, mul-zero) refl
 pub row-next : (edition n : ℕ) → rowStart edition (suc (suc n)) ≡ rowStart edition (suc n) + rowBytes edition
 row-next edition n = rw (row-end, row-end, mul-suc) (omega arith)
 
--- where a table ends is a number of two bytes
-pub row-small : (edition n : ℕ) → n ≤ mostRows edition → rowStart edition (suc n) < 256 ^ 2
-unfolding rowStart rowBytes maskBytes mostRows
-row-small edition n h = omega arith
+-- more rows end no earlier
+pub row-mono : (edition n m : ℕ) → n ≤ m → rowStart edition (suc n) ≤ rowStart edition (suc m)
+row-mono edition n m h = rw (row-end edition n, row-end edition m) (omega (arith, mul-le-mul-left (rowBytes edition) h))
 
 -- a file of the right layout is as long as its rows ask
 pub layout-length : (edition : ℕ) (file : List ℕ) → Passes (layoutLine edition file) → length file ≡ rowStart edition (suc (rowsOf file))
@@ -135,16 +139,18 @@ module _ (g : Graph) where
   abbrev pub AllFit : List (Row (machineOf g)) → Type 0
   AllFit rows = (r : Row (machineOf g)) → List·Memᴰ r rows → Fits r
 
-  rows-read : (p : List ℕ) (rows : List (Row (machineOf g))) → AllFit rows → (i : ℕ) → i < length rows → (d : Row (machineOf g))
-      → rowAt (p ++ rowFiles g rows) (length p + rowBytes (g .edition) * i) ≡ getD rows i d
+  rows-read : (p q : List ℕ) (rows : List (Row (machineOf g))) → AllFit rows → (i : ℕ) → i < length rows → (d : Row (machineOf g))
+      → rowAt (p ++ (rowFiles g rows ++ q)) (length p + rowBytes (g .edition) * i) ≡ getD rows i d
   unfolding rowFiles
-  rows-read p [] fit i h d = absurd (not-suc-le-zero h)
-  rows-read p (r ∷ rs) fit zero h d =
-      ap (rowAt (p ++ (rowFile g r ++ rowFiles g rs))) (ap (λ (k : ℕ). length p + k) (mul-zero (rowBytes (g .edition))) ∙ add-zero (length p))
-      ∙ row-read p (rowFiles g rs) r (fit r (List·Memᴰ·head refl))
-  rows-read p (r ∷ rs) fit (suc i) h d =
-      ap₂ rowAt (sym (append-assoc p (rowFile g r) (rowFiles g rs))) (rw (length-append, row-length, mul-suc) (omega arith))
-      ∙ rows-read (p ++ rowFile g r) rs (λ s m. fit s (List·Memᴰ·tail m)) i (omega arith) d
+  rows-read p q [] fit i h d = absurd (not-suc-le-zero h)
+  rows-read p q (r ∷ rs) fit zero h d =
+      ap₂ (λ (l : List ℕ) (k : ℕ). rowAt (p ++ l) k) (append-assoc (rowFile g r) (rowFiles g rs) q)
+      (ap (λ (k : ℕ). length p + k) (mul-zero (rowBytes (g .edition))) ∙ add-zero (length p))
+      ∙ row-read p (rowFiles g rs ++ q) r (fit r (List·Memᴰ·head refl))
+  rows-read p q (r ∷ rs) fit (suc i) h d =
+      ap₂ rowAt (ap (λ (l : List ℕ). p ++ l) (append-assoc (rowFile g r) (rowFiles g rs) q) ∙ sym (append-assoc p (rowFile g r) (rowFiles g rs ++ q)))
+      (rw (length-append, row-length, mul-suc) (omega arith))
+      ∙ rows-read (p ++ rowFile g r) q rs (λ s m. fit s (List·Memᴰ·tail m)) i (omega arith) d
 
   module _ (cycles : ℕ) (rows : List (Row (machineOf g))) where
     pub file-length : length (tableFile g cycles rows) ≡ rowStart (g .edition) (suc (length rows))
@@ -155,15 +161,19 @@ module _ (g : Graph) where
     unfolding cyclesOf byteAt tableFile headerFile
     file-cycles = refl
 
-    pub file-rows : length rows < 256 ^ 2 → rowsOf (tableFile g cycles rows) ≡ length rows
+    -- The counts and rows of a file that stands at the front of a buffer.
+    pub file-rows : (q : List ℕ) → length rows < 256 ^ 2 → rowsOf (tableFile g cycles rows ++ q) ≡ length rows
     unfolding rowsOf numberAt tableFile headerFile bytesOf
-    file-rows h = bytes-number 2 (length rows) h
+    file-rows q h = bytes-number 2 (length rows) h
 
-    pub file-row : AllFit rows → (p : ℕ) → 0 < p → p ≤ length rows → (d : Row (machineOf g))
-        → tableIn g (tableFile g cycles rows) .row p ≡ getD rows (p - 1) d
+    pub file-row : (q : List ℕ) → AllFit rows → (p : ℕ) → 0 < p → p ≤ length rows → (d : Row (machineOf g))
+        → tableIn g (tableFile g cycles rows ++ q) .row p ≡ getD rows (p - 1) d
     unfolding tableIn rowStart tableFile headerFile bytesOf
-    file-row fit p h k d =
-        rows-read (headerFile (g .edition) cycles (length rows)) rows fit (p - 1) (omega arith) d
+    file-row q fit p h k d =
+        rows-read (headerFile (g .edition) cycles (length rows)) q rows fit (p - 1) (omega arith) d
+
+    whole-rows : length rows < 256 ^ 2 → rowsOf (tableFile g cycles rows) ≡ length rows
+    whole-rows h = ap rowsOf (sym (append-nil (tableFile g cycles rows))) ∙ file-rows [] h
 
     pub file-layout : length rows ≤ mostRows (g .edition) → Passes (layoutLine (g .edition) (tableFile g cycles rows))
     unfolding layoutLine byteAt numberAt littleEndian tableFile headerFile bytesOf
@@ -173,7 +183,7 @@ module _ (g : Graph) where
         file = tableFile g cycles rows
 
         counted : rowsOf file ≡ length rows
-        counted = file-rows (omega (arith, most-small (g .edition)))
+        counted = whole-rows (omega (arith, most-small (g .edition)))
 
         long : ltb (length file) 8 ≡ false
         long = le-ltb (length file) 8 (rw (file-length, row-end) (omega arith))
@@ -203,10 +213,12 @@ module _ (g : Graph) where
         cycles-same = sym file-cycles
 
         rows-same : length rows ≡ rowsOf file
-        rows-same = sym (file-rows (omega (arith, most-small (g .edition))))
+        rows-same = sym (whole-rows (omega (arith, most-small (g .edition))))
 
         row-same : (p : ℕ) → 0 < p → p ≤ length rows → tableOf M cycles rows .row p ≡ tableIn g file .row p
-        row-same p k l = sym (file-row fit p k l (record { cycle = 0; state = M .start; step = 0 }))
+        row-same p k l =
+            sym (file-row [] fit p k l (record { cycle = 0; state = M .start; step = 0 }))
+            ∙ ap (λ (t : List ℕ). tableIn g t .row p) (append-nil file)
 
     pub file-small : g .edition < 256 → cycles < 256
         → ((r : Row (machineOf g)) → List·Memᴰ r rows → (r .cycle < 256) × (r .state .values < 256)) → AreBytes (tableFile g cycles rows)
@@ -215,3 +227,12 @@ module _ (g : Graph) where
         append-small
         (append-small (more (omega arith) (more (omega arith) (more edition (more few (bytes-small 2 (length rows)))))) (bytes-small 2 8))
         (rows-small rows h)
+
+  -- the schedule's file is as long as its rows ask
+  pub schedule-length : length (scheduleFile g) ≡ rowStart (g .edition) (suc (length (scheduleRows (machineOf g))))
+  unfolding scheduleFile
+  schedule-length = file-length (remaining (machineOf g) (machineOf g .start)) (scheduleRows (machineOf g))
+
+  -- which is 8 + 8r bytes for r rows
+  pub schedule-eights : length (scheduleFile g) ≡ 8 + 8 * length (scheduleRows (machineOf g))
+  schedule-eights = schedule-length ∙ row-eights (g .edition) (length (scheduleRows (machineOf g)))

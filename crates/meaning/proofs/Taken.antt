@@ -4,7 +4,7 @@ use Prim.Native.Nat.{ℕ, _-_, _^_, _/_, _≤_, _<_}
 use native.Mathlib.Nat.{le-refl, mul-div-right}
 use native.Mathlib.Omega.{arith}
 use mathlib.Core.Path.{_≡_, sym, _∙_, ap, subst}
-use mathlib.Core.Logic.{_⊎_, inl, ⊎-elim, _≢_}
+use mathlib.Core.Logic.{_⊎_, inl, ⊎-elim, _↔_, Iff·trans, _≢_}
 use mathlib.Core.Bool.{not, _&&_, _||_}
 use mathlib.Core.List.{List}
 use lib.ListN.{length}
@@ -196,23 +196,40 @@ pub record Filed (file : List ℕ) : Type 0 where
   pub length-right : length file ≡ fileEnd file
 
 module _ (file : List ℕ) where
-  pub filed-of : AllPass (fileLines file) → Filed file
-  unfolding fileLines
-  filed-of (and short (and mark (and counts (and offsets (and end none))))) =
+  denies-mark : Denies (not (eqb (byteAt file 0) 0x48 && eqb (byteAt file 1) 0x53 && known (editionOf file)))
+      (((byteAt file 0 ≡ 0x48) × (byteAt file 1 ≡ 0x53)) × T (known (editionOf file)))
+  denies-mark =
+      denies-not (says-and (says-and (says-eqb (byteAt file 0) 0x48) (says-eqb (byteAt file 1) 0x53)) (says-test (known (editionOf file))))
+
+  pub denies-counts : let e = editionOf file in
+      Denies
+      (ltb (mostOperations e) (operationsOf file) || ltb (mostClasses e) (classesOf file)
+      || ltb (mostControls e) (controlsOf file) || ltb (mostArcs e) (arcsOf file))
+      ((((operationsOf file ≤ mostOperations e) × (classesOf file ≤ mostClasses e)) × (controlsOf file ≤ mostControls e))
+      × (arcsOf file ≤ mostArcs e))
+  denies-counts =
       let e = editionOf file in
-      let marks =
-      denies-not (says-and (says-and (says-eqb (byteAt file 0) 0x48) (says-eqb (byteAt file 1) 0x53)) (says-test (known e)))
-      .to (mark 0 (lit< tt)) in
-      let most =
       denies-or (denies-or
       (denies-or (denies-ltb (mostOperations e) (operationsOf file)) (denies-ltb (mostClasses e) (classesOf file)))
       (denies-ltb (mostControls e) (controlsOf file))) (denies-ltb (mostArcs e) (arcsOf file))
-      .to (counts 0 (lit< tt)) in
-      let starts =
+
+  denies-offsets : Denies
+      (not (eqb (numberAt file 8 2) 16 && eqb (numberAt file 10 2) (operationsStart file)
+      && eqb (numberAt file 12 2) (controlsStart file) && eqb (numberAt file 14 2) (arcsStart file)))
+      ((((numberAt file 8 2 ≡ 16) × (numberAt file 10 2 ≡ operationsStart file)) × (numberAt file 12 2 ≡ controlsStart file))
+      × (numberAt file 14 2 ≡ arcsStart file))
+  denies-offsets =
       denies-not (says-and (says-and
       (says-and (says-eqb (numberAt file 8 2) 16) (says-eqb (numberAt file 10 2) (operationsStart file)))
       (says-eqb (numberAt file 12 2) (controlsStart file))) (says-eqb (numberAt file 14 2) (arcsStart file)))
-      .to (offsets 0 (lit< tt)) in
+
+  -- A file passes 1 to 5 exactly when these facts hold.
+  pub filed-of : AllPass (fileLines file) → Filed file
+  unfolding fileLines
+  filed-of (and short (and mark (and counts (and offsets (and end none))))) =
+      let marks = denies-mark .to (mark 0 (lit< tt)) in
+      let most = denies-counts .to (counts 0 (lit< tt)) in
+      let starts = denies-offsets .to (offsets 0 (lit< tt)) in
       record {
         long = denies-ltb (length file) 16 .to (short 0 (lit< tt));
         mark-first = marks .0 .0;
@@ -228,6 +245,16 @@ module _ (file : List ℕ) where
         arcs-offset = starts .1;
         length-right = denies-not (says-eqb (length file) (fileEnd file)) .to (end 0 (lit< tt));
       }
+
+  pub of-filed : Filed file → AllPass (fileLines file)
+  unfolding fileLines
+  of-filed f =
+      and (λ p h. denies-ltb (length file) 16 .from (f .long))
+      (and (λ p h. denies-mark .from ((f .mark-first, f .mark-second), f .edition-known))
+      (and (λ p h. denies-counts .from (((f .operations-most, f .classes-most), f .controls-most), f .arcs-most))
+      (and (λ p h. denies-offsets .from (((f .limits-offset, f .operations-offset), f .controls-offset), f .arcs-offset))
+      (and (λ p h. denies-not (says-eqb (length file) (fileEnd file)) .from (f .length-right))
+      none))))
 
 -- A graph's counts are within its edition's maxima.
 pub record Within (g : Graph) : Type 0 where
@@ -293,13 +320,19 @@ graph-of file ps =
     let p = pass-append (fileLines file) (contentLines (content file)) .0 ps in
     (filed-of file (p .0), taken-of (content file) (p .1))
 
+-- Nothing of 1 to 11 is given exactly when the file and its graph are as the named facts say.
+pub graph-taken-exactly : (file : List ℕ) → (graphVerdict file ≡ accepts) ↔ (Filed file × Taken (content file))
+unfolding graphVerdict graphLines
+graph-taken-exactly file =
+    Iff·trans (judge-taken (graphLines file))
+    (graph-of file, λ t. pass-append (fileLines file) (contentLines (content file)) .1 (of-filed file (t .0), of-taken (content file) (t .1)))
+
 -- a graph that passes refusals 1 to 11
 pub record Accepted (g : Graph) : Type 0 where
   pub taken : Taken g
   pub within : Within g
 
 pub accepted-of : (file : List ℕ) → graphVerdict file ≡ accepts → Accepted (content file)
-unfolding graphVerdict
 accepted-of file e =
-    let p = graph-of file (judge-taken (graphLines file) .0 e) in
+    let p = graph-taken-exactly file .0 e in
     record { taken = p .1; within = within file (p .0) }

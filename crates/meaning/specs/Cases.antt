@@ -1,5 +1,6 @@
 -- Document 01's cases P1 to P11: what is given, and what has to come out.
 use Prim.Native.Nat.{ℕ}
+use Prim.Native.String.{String}
 use mathlib.Core.List.{List, [], _∷_, _++_}
 use lib.ListN.{replicate, take}
 use Rattle.machine.specs.Refusals.{taken, refused}
@@ -79,4 +80,16 @@ cases =
     ∷ checks (graphA 1) (header 2 3 ++ row 1 0 0 6 ++ row 2 0 1 4 ++ row 2 1 1 2) (refusal 18 1)
     ∷ checks (graphA 1) (header 2 3 ++ row 1 0 0 1 ++ row 2 1 1 2 ++ row 2 0 1 4) (refusal 16 3)
     ∷ checks (graphA 1) (header 2 3 ++ row 1 0 0 1 ++ row 2 0 1 4 ++ row 2 1 3 2) (refusal 17 3)
+    ∷ []
+
+-- what the program prints for case A, for P4's graph, and for P5's
+pub record Print : Type 0 where
+  pub file : List ℕ
+  pub text : String
+
+unfoldable pub prints : List Print
+prints =
+    record { file = graphA 1; text = "cycles 2 rows 3 states 12\n1 0 0 1\n2 0 1 4\n2 1 1 2\n" }
+    ∷ record { file = graphEmpty; text = "cycles 0 rows 0 states 1\n" }
+    ∷ record { file = graphFollow; text = "refused 13 0\n" }
     ∷ []

@@ -3,3 +3,4 @@ pub mod Steps
 pub mod TableFile
 pub mod Answers
 pub mod Cases
+pub mod Listing

@@ -2,13 +2,14 @@
 use Prim.Native.Nat.{ℕ, zero, suc, min, _+_, _-_, _*_, _/_, _≤_, _<_}
 use native.Mathlib.Nat.{sub-zero, mul-comm, le-refl, le-trans, le-div-iff-mul-le}
 use native.Mathlib.Omega.{arith}
-use mathlib.Core.Path.{_≡_, sym, _∙_, ap, ap₂, subst}
+use mathlib.Core.Path.{_≡_, refl, sym, _∙_, ap, ap₂, subst}
 use mathlib.Core.Logic.{⊎-elim}
 use mathlib.Core.List.{List, [], _∷_}
 use lib.ListN.{length, getD, take, drop, length-drop, drop-of-length-le}
 use lib.Seq.{slice, take-all, take-nil, drop-nil, getD-drop}
 use Rattle.machine.proofs.Sets.{le-or-lt}
 use Rattle.meaning.specs.Graph.{byteAt}
+use Rattle.meaning.specs.TableFile.{maskBytes}
 use Rattle.numbers.proofs.ByteLaws.{byte-past}
 
 -- a part from its start on
@@ -64,3 +65,8 @@ field-past size j i l h k = sym (byte-past l (size * j + i) (⊎-elim (λ m. le-
     early : size * j < length l → length l ≤ size * j + i
     early m =
         absurd (omega (arith, le-div-iff-mul-le h .1 (subst (λ (q : ℕ). q ≤ length l) (mul-comm size j) (omega arith))))
+
+-- no mask of a row has more bytes than `numbers::number` reads
+pub mask-whole : (edition : ℕ) → min (maskBytes edition) 4 ≡ maskBytes edition
+unfolding maskBytes
+mask-whole edition = refl

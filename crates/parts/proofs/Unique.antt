@@ -8,7 +8,8 @@ use Rattle.meaning.specs.Graph.{Graph, Literals, graphOf}
 use Rattle.parts.specs.declared.Literals.{Literals as Masks}
 use Rattle.parts.specs.declared.Operation.{Operation}
 use Rattle.parts.specs.declared.Arc.{Arc}
-use Rattle.parts.specs.Fields.{literalsOf, IsOperation, IsArc, Stands, Lent, OfLimits, OfOperations, OfControls, OfArcs}
+use Rattle.parts.specs.declared.Row.{Row}
+use Rattle.parts.specs.Fields.{literalsOf, IsOperation, IsArc, IsRow, Stands, Lent, OfEdition, OfLimits, OfOperations, OfControls, OfArcs}
 
 pub one-start : (n bits a b : ℕ) → Stands n bits a → Stands n bits b → a ≡ b
 one-start n bits a b p q = p .right ∙ sym (q .right)
@@ -60,4 +61,17 @@ one-arc arcs i a b p q =
       target = (m .target ∙ sym (n .target)) t;
       kind = (m .kind ∙ sym (n .kind)) t;
       joins = one-literals (a .joins) (b .joins) (m .joins ∙ sym (n .joins)) t;
+    }
+
+pub one-row : (edition : ℕ) (table : List ℕ) (i : ℕ) (a b : Row) → OfEdition edition (λ g. IsRow g table i a)
+    → OfEdition edition (λ g. IsRow g table i b) → a ≡ b
+one-row edition table i a b p q =
+    let g = graphOf edition [] [] [] [] in
+    let m = p g refl in
+    let n = q g refl in
+    λ t. record {
+      cycle = (m .cycle ∙ sym (n .cycle)) t;
+      values = (m .values ∙ sym (n .values)) t;
+      done = (m .done ∙ sym (n .done)) t;
+      step = (m .step ∙ sym (n .step)) t;
     }

@@ -5,9 +5,11 @@ use mathlib.Core.List.{List}
 use lib.ListN.{length}
 use denote.Ref.{RefT, now, ptr}
 use Rattle.meaning.specs.Graph.{operationsOf, classesOf, controlsOf, Graph, Literals, class, path, source, target, kind, joins}
+use Rattle.meaning.specs.TableFile.{tableIn}
 use Rattle.parts.specs.declared.Literals.{Literals as Masks}
 use Rattle.parts.specs.declared.Operation.{Operation}
 use Rattle.parts.specs.declared.Arc.{Arc}
+use Rattle.parts.specs.declared.Row.{Row}
 use Rattle.parts.specs.declared.Counts.{Counts}
 
 -- the set of literals that two masks hold
@@ -24,6 +26,15 @@ pub record IsArc (g : Graph) (a : ℕ) (r : Arc) : Type 0 where
   pub target : r .target ≡ target g a
   pub kind : r .kind ≡ kind g a
   pub joins : literalsOf (r .joins) ≡ joins g a
+
+-- r is row p of a graph's table, and its cycle and values are bytes
+pub record IsRow (g : Graph) (table : List ℕ) (p : ℕ) (r : Row) : Type 0 where
+  pub cycle : r .cycle ≡ tableIn g table .row p .cycle
+  pub values : r .values ≡ tableIn g table .row p .state .values
+  pub done : r .done ≡ tableIn g table .row p .state .done
+  pub step : r .step ≡ tableIn g table .row p .step
+  pub cycle-small : r .cycle < 256
+  pub values-small : r .values < 256
 
 -- r has the counts of operations, classes and controls that the header says, each of a byte
 pub record Counted (file : List ℕ) (r : Counts) : Type 0 where
@@ -44,6 +55,10 @@ pub record Lent (bytes : List ℕ) (from : ℕ) (whole r : RefT (List ℕ)) : Ty
   pub holds : now r ≡ bytes
   pub block : ptr r .0 ≡ ptr whole .0
   pub place : ptr r .1 ≡ ptr whole .1 + min from (length (now whole))
+
+-- What is said of every graph of an edition.
+abbrev pub OfEdition : ℕ → (Graph → Type 0) → Type 0
+OfEdition edition P = (g : Graph) → g .edition ≡ edition → P g
 
 -- What is said of every graph that has these limits, operations, controls or arcs, whatever its other parts are.
 abbrev pub OfLimits : List ℕ → (Graph → Type 0) → Type 0

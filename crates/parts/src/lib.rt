@@ -1,14 +1,15 @@
-// The parts of a graph file, cut from any bytes; what an edition fixes; and the fields of operations, controls and arcs.
+// The parts of a graph file, cut from any bytes; what an edition fixes; and the fields of operations, controls, arcs and rows.
 // No crate above knows an offset, a record size or an edition's numbers. A byte beyond the end of a part reads as 0.
 use numbers::byte;
+use numbers::number;
 use numbers::pair;
 ghost use mathlib.Core.Path.{_≡_};
-ghost use Prim.Native.Nat.{min, _+_, _*_, _<_, _≤_};
+ghost use Prim.Native.Nat.{suc, min, _+_, _*_, _<_, _≤_};
 ghost use lib.Seq.{slice};
 ghost use Rattle.meaning.specs.Graph.{byteAt, known, mostOperations, mostClasses, mostControls, mostArcs, operationBytes, operationsStart, controlsStart, arcsStart, fileEnd, content, operationCount, arcCount, limit, class, path, producer, source, target, kind, joins};
-ghost use Rattle.meaning.specs.TableFile.{maskBytes, rowBytes, rowStart, mostRows};
+ghost use Rattle.meaning.specs.TableFile.{maskBytes, rowBytes, rowStart, rowsOf, mostRows};
 ghost use Rattle.numbers.specs.Reads.{Reads};
-ghost use Rattle.parts.specs.Fields.{Counted, Stands, Lent, literalsOf, IsOperation, IsArc, OfLimits, OfOperations, OfControls, OfArcs};
+ghost use Rattle.parts.specs.Fields.{Counted, Stands, Lent, literalsOf, IsOperation, IsArc, IsRow, OfEdition, OfLimits, OfOperations, OfControls, OfArcs};
 
 const HEADER_BYTES: usize = 16;
 
@@ -34,6 +35,14 @@ pub struct Arc {
     pub target: usize,
     pub kind: u32,
     pub joins: Literals,
+}
+
+// What stands in a table's row.
+pub struct Row {
+    pub cycle: u32,
+    pub values: u32,
+    pub done: u32,
+    pub step: u32,
 }
 
 // An edition that the reader takes.
@@ -86,21 +95,42 @@ pub fn mask_bytes(edition: u32) -> usize
 }
 
 // The bytes of a table's row.
-pub fn row_bytes(edition: u32) -> usize
+fn row_bytes(edition: u32) -> usize
     ensures { λ r. ⌜ r ≡ rowBytes edition ⌝ }
 {
     2 + 2 * mask_bytes(edition)
 }
 
-// Where the rows of a table stand.
-pub fn rows_start(edition: u32) -> usize
-    ensures { λ r. ⌜ r ≡ rowStart edition 1 ⌝ }
+// The rows that a table's header says.
+pub fn row_count(table: &[u8]) -> u32
+    ensures { λ r. ⌜ Reads (rowsOf (now (table .entry))) 2 r ⌝ }
 {
-    TABLE_HEADER_BYTES
+    pair(table, 4)
+}
+
+// Where the row behind `rows` others stands in a table. Behind the last row this is the table's length.
+pub fn row_start(edition: u32, rows: u32) -> usize
+    ensures { λ r. ⌜ Stands (rowStart edition (suc rows)) 36 r ⌝ }
+{
+    TABLE_HEADER_BYTES + row_bytes(edition) * rows as usize
+}
+
+// The row behind `row` others in a table.
+pub fn row_at(edition: u32, table: &[u8], row: u32) -> Row
+    ensures { λ r. ⌜ OfEdition edition (λ g. IsRow g (now (table .entry)) (suc row) r) ⌝ }
+{
+    let at = row_start(edition, row);
+    let size = mask_bytes(edition);
+    Row {
+        cycle: byte(table, at),
+        values: byte(table, at + 1),
+        done: number(table, at + 2, size),
+        step: number(table, at + 2 + size, size),
+    }
 }
 
 // The most rows that a table of an edition may have.
-pub fn most_rows(edition: u32) -> usize
+pub fn most_rows(edition: u32) -> u32
     ensures { λ r. ⌜ r ≡ mostRows edition ⌝ }
 {
     384

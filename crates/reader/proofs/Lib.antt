@@ -1,3 +1,4 @@
 pub mod SetLaws
 pub mod Verdicts
 pub mod Unique
+pub mod Corollaries

@@ -1,6 +1,6 @@
 -- Laws of the scheduler's answers: refusals 12 to 14, and the file that is written. Assumes nothing.
-use Prim.Native.Nat.{ℕ, suc, _*_, _≤_, _<_, zero-le}
-use native.Mathlib.Nat.{le-trans, zero-add, mul-comm}
+use Prim.Native.Nat.{ℕ, _*_, _≤_, _<_, zero-le}
+use native.Mathlib.Nat.{le-trans, zero-add}
 use native.Mathlib.Omega.{arith}
 use mathlib.Core.Path.{_≡_, refl, sym, _∙_, ap, ap₂, subst}
 use mathlib.Core.Bool.{cond}
@@ -10,24 +10,22 @@ use lib.Arith.{le→nltb}
 use lib.Dec.{ltb, lt→ltb}
 use Rattle.machine.specs.Refusals.{Line, Verdict, taken, refused, placeless, judge}
 use Rattle.machine.specs.Machine.{Machine, remaining, stateCount}
-use Rattle.machine.specs.Tables.{Row, scheduleRows}
-use Rattle.machine.proofs.Sets.{list-length}
+use Rattle.machine.specs.Tables.{scheduleRows}
 use Rattle.machine.proofs.Refusals.{otherwise, judge-append, judge-taken, judge-after, placeless-fault, placeless-passes}
 use Rattle.machine.proofs.Search.{missing, right-remaining, right-missing}
 use Rattle.meaning.specs.Graph.{Graph, content}
 use Rattle.meaning.specs.Steps.{machineOf}
 use Rattle.meaning.specs.TableFile.{mostRows, rowStart, bytesOf, headerFile, rowFiles, tableFile, scheduleFile}
 use Rattle.meaning.specs.Answers.{answer, isTaken, graphLines, graphVerdict, scheduleLines, scheduleVerdict, scheduler, slotsAfter, tableAfter}
-use Rattle.meaning.proofs.Taken.{Accepted, few-operations, few-controls}
-use Rattle.meaning.proofs.TableFile.{row-first, file-length}
+use Rattle.meaning.proofs.Taken.{Accepted, few-operations}
+use Rattle.meaning.proofs.TableFile.{row-first, row-mono, schedule-length}
 use Rattle.scheduler.specs.declared.Scheduled.{Scheduled}
 use Rattle.scheduler.specs.declared.Scheduled.the-variants.{Refused, Done}
 use Rattle.scheduler.specs.Slots.{Holds}
 use Rattle.scheduler.specs.Search.{Store}
-use Rattle.scheduler.specs.Rows.{Planning, cycleRows}
+use Rattle.scheduler.specs.Rows.{Planning}
 use Rattle.scheduler.specs.Writing.{written}
 use Rattle.scheduler.specs.Promise.{valuesOf, Promised, Answered, laterLines, RowsIn}
-use Rattle.scheduler.proofs.RowLaws.{row-mono, rows-are, cycle-rows}
 use Rattle.scheduler.proofs.WriteLaws.{written-before}
 
 -- The number that is held with the start is its remaining number, or there is none.
@@ -116,25 +114,10 @@ module _ (g : Graph) where
         writes = a .writes ∙ ap (λ (v : Verdict). cond (isTaken v) (scheduleFile g ++ drop (length (scheduleFile g)) t) t) (sym e);
       }
 
-  -- the schedule's file
-  pub schedule-length : length (scheduleFile g) ≡ rowStart (g .edition) (suc (length (scheduleRows (machineOf g))))
-  unfolding scheduleFile
-  schedule-length = file-length g (remaining (machineOf g) (machineOf g .start)) (scheduleRows (machineOf g))
-
   -- there is room in a table for 16 rows of each cycle
   pub cycles-room : Accepted g → (t : ℕ) → t ≤ machineOf g .horizon → 16 * t ≤ mostRows (g .edition)
   unfolding mostRows
   cycles-room a t h = omega (arith, few-operations (a .within))
-
-  pub few-rows : Accepted g → remaining (machineOf g) (machineOf g .start) ≤ machineOf g .horizon
-      → length (scheduleRows (machineOf g)) ≤ mostRows (g .edition)
-  few-rows a h =
-      subst (λ (l : List (Row (machineOf g))). length l ≤ mostRows (g .edition)) (sym (rows-are g))
-      (le-trans (list-length cycles 16 (cycleRows g) (λ t k. cycle-rows g t (few-controls (a .within))))
-      (subst (λ (k : ℕ). k ≤ mostRows (g .edition)) (mul-comm 16 cycles) (cycles-room a cycles h)))
-    where
-      cycles : ℕ
-      cycles = remaining (machineOf g) (machineOf g .start)
 
   -- the rows, and then the header
   pub file-written : (edition cycles rows : ℕ) (t u v : List ℕ) → g .edition ≡ edition → cycles ≡ remaining (machineOf g) (machineOf g .start)
@@ -143,7 +126,7 @@ module _ (g : Graph) where
   file-written edition cycles rows t u v one c r e =
       written-before t u v (rowStart (g .edition) 1) (headerFile edition cycles rows) files (r .table) e (row-first (g .edition))
       (le-trans (row-mono (g .edition) 0 (length (scheduleRows (machineOf g))) zero-le)
-      (subst (λ (k : ℕ). k ≤ length t) schedule-length (r .room)))
+      (subst (λ (k : ℕ). k ≤ length t) (schedule-length g) (r .room)))
       ∙ ap (λ (l : List ℕ). written t 0 l) same ∙ ap (λ (k : ℕ). scheduleFile g ++ drop k t) (zero-add (length (scheduleFile g)))
     where
       files : List ℕ

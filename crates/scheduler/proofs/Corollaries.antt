@@ -1,43 +1,28 @@
--- What the scheduler's promise says: one outcome for each input; a success's table is accepted and has the fewest cycles, and
--- its count is that of the reachable states; 13 is given exactly when no table is accepted. Assumes nothing.
-use Prim.Native.Nat.{ℕ, suc, _≤_, _<_}
-use native.Mathlib.Omega.{arith}
+-- What the scheduler's promise says: one outcome for each input; each refusal, and a success, exactly when; the table of a
+-- success is accepted, has the fewest cycles and consists of bytes; the states counted are the reachable ones. Assumes nothing.
+use Prim.Native.Nat.{ℕ, suc, _+_, _*_, _≤_, _<_}
+use native.Mathlib.Nat.{le-trans}
 use mathlib.Core.Path.{_≡_, refl, sym, _∙_, ap, subst}
-use mathlib.Core.Logic.{_⊎_, ⊎-elim, _≢_}
-use mathlib.Core.Bool.{Bool, false, cond, not, _||_}
-use mathlib.Core.List.{List, [], _∷_, _++_}
+use mathlib.Core.Logic.{_↔_, _≢_, Iff·trans}
+use mathlib.Core.Bool.{cond}
+use mathlib.Core.List.{List, _++_}
 use lib.ListN.{length, take, drop}
 use lib.Seq.{take-at}
-use lib.Dec.{T, eqb, eqb-refl, lit<}
-use Rattle.machine.specs.Refusals.{Line, Verdict, taken, refused, judge}
+use Rattle.machine.specs.Refusals.{Verdict, taken, refused}
 use Rattle.machine.specs.Machine.{Machine, remaining, stateCount}
 use Rattle.machine.specs.Tables.{scheduleRows}
-use Rattle.machine.proofs.Truth.{or-left, or-right, contrary}
-use Rattle.machine.proofs.Sets.{le-or-lt}
-use Rattle.machine.proofs.Says.{denies-ltb}
-use Rattle.machine.proofs.Refusals.{Given, here, later, AllPass, and, otherwise, judge-append, judge-taken, judge-refused, judge-after, pass-append}
+use Rattle.machine.proofs.Refusals.{Given, judge-refused}
 use Rattle.machine.proofs.Reach.{Counts, state-count}
-use Rattle.meaning.specs.Graph.{fileLines, contentLines, content}
+use Rattle.meaning.specs.Graph.{content}
 use Rattle.meaning.specs.Steps.{machineOf}
-use Rattle.meaning.specs.TableFile.{rowStart, cyclesOf, scheduleFile}
+use Rattle.meaning.specs.TableFile.{mostRows, rowStart, cyclesOf, scheduleFile}
 use Rattle.meaning.specs.Answers.{Answer, answer, isTaken, graphLines, graphVerdict, scheduleLines, scheduleVerdict, scheduler, tableAfter, checkVerdict}
-use Rattle.meaning.proofs.TableFile.{file-cycles}
-use Rattle.meaning.proofs.Demands.{lawful-in, schedule-shortest, thirteen-exactly}
+use Rattle.meaning.proofs.Bytes.{AreBytes}
+use Rattle.meaning.proofs.TableFile.{file-cycles, schedule-length, schedule-eights}
+use Rattle.meaning.proofs.Demands.{SomeAccepted, NoneAccepted, twelve-means, thirteen-means, fourteen-means, success-means, lawful-in, schedule-bytes, room-enough, none-at-all, some-accepted, none-accepted, schedule-exactly, schedule-shortest}
 use Rattle.scheduler.specs.declared.Scheduled.{Scheduled}
 use Rattle.scheduler.specs.declared.Scheduled.the-variants.{Refused, Done}
 use Rattle.scheduler.specs.Promise.{valuesOf, Promised}
-use Rattle.scheduler.proofs.Answering.{twelve, schedule-length}
-
--- a line with a given number is in a table of refusals; one that is given is
-numbered : ℕ → List Line → Bool
-numbered k [] = false
-numbered k (l ∷ ls) = eqb (l .number) k || numbered k ls
-
-given-numbered : {k p : ℕ} {ls : List Line} → Given k p ls → T (numbered k ls)
-unfolding numbered
-given-numbered {k} (here {l = l} {ls = ls} e h) =
-    or-left (eqb (l .number) k) (numbered k ls) (subst (λ (n : ℕ). T (eqb (l .number) n)) e (eqb-refl (l .number)))
-given-numbered {k} (later {l = l} {ls = ls} h r) = or-right (eqb (l .number) k) (numbered k ls) (given-numbered r)
 
 -- the answer that has the values
 answerOf : Verdict → Answer → Scheduled
@@ -66,19 +51,87 @@ answer-verdict (refused x y) c n k = refl
 
 -- What a call has answered.
 module _ (file slots table : List ℕ) (r : Scheduled) (slotsLast tableLast : List ℕ) (p : Promised file slots table r slotsLast tableLast) where
+  -- the machine of the graph that the file holds
+  abbrev M : Machine
+  M = machineOf (content file)
+
+  -- a success, with the schedule's cycles and rows and the reachable states
+  abbrev success : Scheduled
+  success = Done (remaining M (M .start)) (length (scheduleRows M)) (stateCount M)
+
   verdict-is : valuesOf r .verdict ≡ scheduleVerdict file slots table
   unfolding scheduler
   verdict-is =
       ap (λ (v : Answer). v .verdict) (p .answers)
       ∙ answer-verdict (scheduleVerdict file slots table) (remaining M (M .start)) (length (scheduleRows M)) (stateCount M)
-    where
-      M : Machine
-      M = machineOf (content file)
 
-  -- 12 and the reader's refusals have passed
-  record Passed : Type 0 where
-    graph : graphVerdict file ≡ taken
-    enough : stateCount (machineOf (content file)) ≤ length slots
+  -- the answer is the verdict's
+  refusal-is : (k q : ℕ) → (r ≡ Refused k q) ↔ (scheduleVerdict file slots table ≡ refused k q)
+  unfolding valuesOf answerOf
+  refusal-is k q = (
+    λ e. sym verdict-is ∙ ap (λ (s : Scheduled). valuesOf s .verdict) e,
+    λ v. sym (answer-back r) ∙ ap (λ (w : Verdict). answerOf w (valuesOf r)) (verdict-is ∙ v),
+  )
+
+  success-is : (r ≡ success) ↔ (scheduleVerdict file slots table ≡ taken)
+  unfolding valuesOf answerOf scheduler answer
+  success-is = (
+    λ e. sym verdict-is ∙ ap (λ (s : Scheduled). valuesOf s .verdict) e,
+    λ v. sym (answer-back r) ∙ ap (λ (a : Answer). answerOf (a .verdict) a) (p .answers)
+        ∙ ap (λ (w : Verdict). let a = answer w (remaining M (M .start)) (length (scheduleRows M)) (stateCount M) in answerOf (a .verdict) a) v,
+  )
+
+  -- A refusal is given exactly by the refusal table: its line is at fault at that place first, and no earlier line anywhere.
+  pub refuses-exactly : (k q : ℕ)
+      → (r ≡ Refused k q) ↔ Given k q (graphLines file ++ scheduleLines (content file) (length slots) (length table))
+  unfolding scheduleVerdict
+  refuses-exactly k q =
+      Iff·trans (refusal-is k q) (judge-refused (graphLines file ++ scheduleLines (content file) (length slots) (length table)) k q)
+
+  -- 12 is given exactly when the graph is taken and there are fewer slots than reachable states.
+  pub twelve-exactly : (r ≡ Refused 12 0) ↔ ((graphVerdict file ≡ taken) × (length slots < stateCount M))
+  twelve-exactly = Iff·trans (refusal-is 12 0) (twelve-means file slots table)
+
+  -- 13 is given exactly when the graph is taken, the slots are enough and no table is accepted.
+  pub thirteen-exactly : (r ≡ Refused 13 0) ↔ ((graphVerdict file ≡ taken) × (stateCount M ≤ length slots) × NoneAccepted file)
+  thirteen-exactly =
+      let means = Iff·trans (refusal-is 13 0) (thirteen-means file slots table) in (
+        λ e. let q = means .0 e in (q .0, q .1 .0, none-accepted file (q .0) .0 (q .1 .1)),
+        λ q. means .1 (q .0, (q .1, none-accepted file (q .0) .1 (q .2))),
+      )
+
+  -- It is given only when no list at all is accepted, of bytes or not, and whenever no table is, if the graph is taken and
+  -- the slots are enough.
+  pub thirteen-only : r ≡ Refused 13 0 → (other : List ℕ) → checkVerdict file other ≢ taken
+  thirteen-only e =
+      let q = Iff·trans (refusal-is 13 0) (thirteen-means file slots table) .0 e in none-at-all file (q .0) (q .1 .1)
+
+  pub thirteen-given : graphVerdict file ≡ taken → stateCount M ≤ length slots → NoneAccepted file → r ≡ Refused 13 0
+  thirteen-given g h none = thirteen-exactly .1 (g, h, none)
+
+  -- 14 is given exactly when the graph is taken, the slots are enough, a table is accepted, and the buffer is shorter than
+  -- the schedule's file, which has 8 + 8r bytes for its r rows.
+  pub fourteen-exactly : (r ≡ Refused 14 0)
+      ↔ ((graphVerdict file ≡ taken) × (stateCount M ≤ length slots) × SomeAccepted file × (length table < length (scheduleFile (content file))))
+  fourteen-exactly =
+      let means = Iff·trans (refusal-is 14 0) (fourteen-means file slots table) in (
+        λ e. let q = means .0 e in (q .0, q .1 .0, some-accepted file (q .0) .0 (q .1 .1 .0), q .1 .1 .1),
+        λ q. means .1 (q .0, (q .1, (some-accepted file (q .0) .1 (q .2), q .3))),
+      )
+
+  -- Given a graph that is taken and slots for all reachable states.
+  module _ (graph : graphVerdict file ≡ taken) (enough : stateCount M ≤ length slots) where
+    -- With room for the schedule's file the scheduler succeeds exactly when a table is accepted.
+    pub succeeds-exactly : length (scheduleFile (content file)) ≤ length table → (r ≡ success) ↔ SomeAccepted file
+    succeeds-exactly room = Iff·trans success-is (schedule-exactly file graph slots table enough room)
+
+    -- So it does with room for as many rows as a table may have, which is 3080 bytes.
+    pub succeeds-roomy : rowStart (content file .edition) (suc (mostRows (content file .edition))) ≤ length table
+        → (r ≡ success) ↔ SomeAccepted file
+    succeeds-roomy room = (
+      λ e. some-accepted file graph .0 (success-means file slots table .0 (success-is .0 e) .1 .1 .0),
+      λ a. succeeds-exactly (le-trans (room-enough file graph (some-accepted file graph .1 a)) room) .1 a,
+    )
 
   -- a success
   module _ (cycles rows states : ℕ) (e : r ≡ Done cycles rows states) where
@@ -86,30 +139,31 @@ module _ (file slots table : List ℕ) (r : Scheduled) (slotsLast tableLast : Li
     unfolding valuesOf
     verdict-taken = sym verdict-is ∙ ap (λ (q : Scheduled). valuesOf q .verdict) e
 
-    passed : Passed
-    unfolding scheduleVerdict scheduleLines graphVerdict
-    passed = parts (pass-append (graphLines file) (scheduleLines (content file) (length slots) (length table)) .0 (judge-taken (graphLines file ++ scheduleLines (content file) (length slots) (length table)) .0 verdict-taken))
-      where
-        parts : AllPass (graphLines file) × AllPass (scheduleLines (content file) (length slots) (length table)) → Passed
-        parts (a, and l ls) =
-            record {
-              graph = judge-taken (graphLines file) .1 a;
-              enough = denies-ltb (length slots) (stateCount (machineOf (content file))) .to (l 0 (lit< tt));
-            }
+    -- what has passed then
+    graph : graphVerdict file ≡ taken
+    graph = success-means file slots table .0 verdict-taken .0
 
-    values-are : valuesOf (Done cycles rows states) ≡ answer taken (remaining (machineOf (content file)) (machineOf (content file) .start)) (length (scheduleRows (machineOf (content file)))) (stateCount (machineOf (content file)))
-    unfolding scheduler
-    values-are =
-        ap valuesOf (sym e) ∙ p .answers
-        ∙ ap (λ (v : Verdict). answer v (remaining (machineOf (content file)) (machineOf (content file) .start)) (length (scheduleRows (machineOf (content file)))) (stateCount (machineOf (content file)))) verdict-taken
+    enough : stateCount M ≤ length slots
+    enough = success-means file slots table .0 verdict-taken .1 .0
 
-    cycles-are : cycles ≡ remaining (machineOf (content file)) (machineOf (content file) .start)
-    unfolding valuesOf answer
-    cycles-are = ap (λ (v : Answer). v .cycles) values-are
+    found : remaining M (M .start) ≤ M .horizon
+    found = success-means file slots table .0 verdict-taken .1 .1 .0
 
-    rows-are : rows ≡ length (scheduleRows (machineOf (content file)))
-    unfolding valuesOf answer
-    rows-are = ap (λ (v : Answer). v .rows) values-are
+    -- A success answers the schedule's cycles and rows, and how many states are reachable.
+    pub counts-answered : r ≡ success
+    counts-answered = success-is .1 verdict-taken
+
+    cycles-are : cycles ≡ remaining M (M .start)
+    unfolding valuesOf
+    cycles-are = ap (λ (q : Scheduled). valuesOf q .cycles) (sym e ∙ counts-answered)
+
+    rows-are : rows ≡ length (scheduleRows M)
+    unfolding valuesOf
+    rows-are = ap (λ (q : Scheduled). valuesOf q .rows) (sym e ∙ counts-answered)
+
+    states-are : states ≡ stateCount M
+    unfolding valuesOf
+    states-are = ap (λ (q : Scheduled). valuesOf q .states) (sym e ∙ counts-answered)
 
     -- the first bytes of the buffer, as many as a table of so many rows has, are the schedule's file
     written-file : take (rowStart (content file .edition) (suc rows)) tableLast ≡ scheduleFile (content file)
@@ -121,13 +175,11 @@ module _ (file slots table : List ℕ) (r : Scheduled) (slotsLast tableLast : Li
 
     best : (checkVerdict file (scheduleFile (content file)) ≡ taken)
         × ((other : List ℕ) → checkVerdict file other ≡ taken → cyclesOf (scheduleFile (content file)) ≤ cyclesOf other)
-    best = schedule-shortest file (passed .graph) slots table (passed .enough) verdict-taken
+    best = schedule-shortest file graph slots table enough verdict-taken
 
     file-cycles-are : cyclesOf (scheduleFile (content file)) ≡ cycles
     unfolding scheduleFile
-    file-cycles-are =
-        file-cycles (content file) (remaining (machineOf (content file)) (machineOf (content file) .start)) (scheduleRows (machineOf (content file)))
-        ∙ sym cycles-are
+    file-cycles-are = file-cycles (content file) (remaining M (M .start)) (scheduleRows M) ∙ sym cycles-are
 
     -- The table written is accepted, and carries the number of cycles that was answered.
     pub accepted : checkVerdict file (take (rowStart (content file .edition) (suc rows)) tableLast) ≡ taken
@@ -136,71 +188,17 @@ module _ (file slots table : List ℕ) (r : Scheduled) (slotsLast tableLast : Li
     pub cycles-written : cyclesOf (take (rowStart (content file .edition) (suc rows)) tableLast) ≡ cycles
     cycles-written = ap cyclesOf written-file ∙ file-cycles-are
 
+    -- It consists of bytes: those of the schedule's file, which are 8 + 8r for r rows.
+    pub written-bytes : AreBytes (take (rowStart (content file .edition) (suc rows)) tableLast)
+    written-bytes = subst AreBytes (sym written-file) (schedule-bytes file graph found)
+
+    pub written-length : length (scheduleFile (content file)) ≡ 8 + 8 * rows
+    written-length = schedule-eights (content file) ∙ ap (λ (k : ℕ). 8 + 8 * k) (sym rows-are)
+
     -- No accepted table has fewer cycles.
     pub shortest : (other : List ℕ) → checkVerdict file other ≡ taken → cycles ≤ cyclesOf other
     shortest other a = subst (λ (k : ℕ). k ≤ cyclesOf other) file-cycles-are (best .1 other a)
 
     -- The states counted are the reachable states, each once.
-    pub states-counted : Counts (machineOf (content file)) states
-    unfolding valuesOf answer
-    states-counted =
-        subst (Counts (machineOf (content file))) (ap (λ (v : Answer). v .states) (sym values-are))
-        (state-count (machineOf (content file)) (lawful-in file (passed .graph)))
-
-  -- 13 says that the reader's refusals and 12 have passed
-  module _ (e : r ≡ Refused 13 0) where
-    verdict-thirteen : scheduleVerdict file slots table ≡ refused 13 0
-    unfolding valuesOf
-    verdict-thirteen = sym verdict-is ∙ ap (λ (q : Scheduled). valuesOf q .verdict) e
-
-    -- no line of the reader's has this number
-    graph-taken : (v : Verdict) → graphVerdict file ≡ v → graphVerdict file ≡ taken
-    graph-taken taken d = d
-    graph-taken (refused k q) d =
-        absurd (contrary (numbered 13 (graphLines file)) (given-numbered (subst (λ (n : ℕ). Given n q (graphLines file)) same given)) other)
-      where
-        verdict : scheduleVerdict file slots table ≡ refused k q
-        verdict =
-            unfold scheduleVerdict graphVerdict otherwise in judge-append (graphLines file) (scheduleLines (content file) (length slots) (length table))
-            ∙ ap (λ (w : Verdict). otherwise w (judge (scheduleLines (content file) (length slots) (length table)))) d
-
-        same : k ≡ 13
-        same = let both : refused k q ≡ refused 13 0 = sym verdict ∙ verdict-thirteen in cc
-
-        given : Given k q (graphLines file)
-        given = judge-refused (graphLines file) k q .0 (unfold graphVerdict in d)
-
-        other : T (not (numbered 13 (graphLines file)))
-        other = unfold numbered graphLines fileLines contentLines in tt
-
-    passed-twelve : Passed
-    passed-twelve = record { graph = graph; enough = ⊎-elim (λ (h : M ≤ length slots). h) (λ (h : length slots < M). absurd (few h)) (le-or-lt M (length slots)) }
-      where
-        graph : graphVerdict file ≡ taken
-        graph = graph-taken (graphVerdict file) refl
-
-        M : ℕ
-        M = stateCount (machineOf (content file))
-
-        verdict-twelve : length slots < M → scheduleVerdict file slots table ≡ refused 12 0
-        verdict-twelve h =
-            unfold scheduleVerdict graphVerdict in judge-after (judge-taken (graphLines file) .0 graph) (scheduleLines (content file) (length slots) (length table))
-            ∙ twelve (content file) (length slots) (length table) h
-
-        few : length slots < M → ⊥
-        few h =
-            let both : refused 12 0 ≡ refused 13 0 = sym (verdict-twelve h) ∙ verdict-thirteen in
-            let z : _≡_ {A = ℕ} 12 13 = cc in
-            omega arith
-
-  -- 13 is given only when no table is accepted, and whenever none is, if the graph is taken and the slots are enough.
-  pub thirteen-only : r ≡ Refused 13 0 → (other : List ℕ) → checkVerdict file other ≢ taken
-  thirteen-only e =
-      thirteen-exactly file (passed-twelve e .graph) slots table (passed-twelve e .enough) .0 (verdict-thirteen e)
-
-  pub thirteen-given : graphVerdict file ≡ taken → stateCount (machineOf (content file)) ≤ length slots
-      → ((other : List ℕ) → checkVerdict file other ≢ taken) → r ≡ Refused 13 0
-  unfolding answerOf
-  thirteen-given g h none =
-      sym (answer-back r)
-      ∙ ap (λ (v : Verdict). answerOf v (valuesOf r)) (verdict-is ∙ thirteen-exactly file g slots table h .1 none)
+    pub states-counted : Counts M states
+    states-counted = subst (Counts M) (sym states-are) (state-count M (lawful-in file graph))

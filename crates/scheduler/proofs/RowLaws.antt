@@ -1,7 +1,7 @@
 -- Laws of the schedule's rows: laying rows one behind the other, and the states of the words from cycle to cycle.
 -- Assumes nothing.
 use Prim.Native.Nat.{ℕ, zero, suc, _+_, _-_, _^_, _≤_, _<_, zero-le}
-use native.Mathlib.Nat.{add-zero, mul-one, mul-add, mul-le-mul-left, lt-of-lt-of-le, le-refl, le-trans}
+use native.Mathlib.Nat.{add-zero, mul-one, mul-add, lt-of-lt-of-le, le-refl, le-trans}
 use native.Mathlib.Numerals.{add-one}
 use native.Mathlib.Omega.{arith}
 use mathlib.Core.Path.{_≡_, refl, sym, _∙_, ap, ap₂, subst}
@@ -23,17 +23,13 @@ use Rattle.machine.proofs.Search.{good-all}
 use Rattle.meaning.specs.Graph.{Graph, controlCount}
 use Rattle.meaning.specs.Steps.{State, machineOf, complete, after}
 use Rattle.meaning.specs.TableFile.{rowBytes, rowStart, rowFile, rowFiles}
-use Rattle.meaning.proofs.TableFile.{row-end, rows-length}
+use Rattle.meaning.proofs.TableFile.{row-end, row-mono, rows-length}
 use Rattle.steps.specs.declared.State.{State as Fields}
 use Rattle.steps.specs.States.{stateOf}
 use Rattle.scheduler.specs.Slots.{Holds}
 use Rattle.scheduler.specs.Writing.{written}
 use Rattle.scheduler.specs.Rows.{Choosing, Planning, met, stateAt, Meets, rowOf, cycleRows, Laid, Room}
 use Rattle.scheduler.proofs.WriteLaws.{written-none, written-then, written-length}
-
--- later rows stand no earlier
-pub row-mono : (edition n m : ℕ) → n ≤ m → rowStart edition (suc n) ≤ rowStart edition (suc m)
-row-mono edition n m h = rw (row-end edition n, row-end edition m) (omega (arith, mul-le-mul-left (rowBytes edition) h))
 
 module _ (g : Graph) where
   -- where the row behind so many others stands

@@ -9,7 +9,6 @@ use crate::search::Settled;
 use crate::search::settle;
 use crate::slots::clear;
 use crate::table::put_header;
-use crate::table::row_start;
 use reader::Read;
 ghost use Rattle.meaning.specs.Graph.{content};
 ghost use Rattle.meaning.proofs.Taken.{Accepted};
@@ -31,7 +30,7 @@ pub enum Scheduled {
 // The rows of a schedule in the buffer, or that they have no room there.
 enum Filled {
     Short,
-    Rows(usize),
+    Rows(u32),
 }
 
 // Writes the rows behind the place of the header. Where the buffer has room for any table they are written at once; else they
@@ -41,11 +40,11 @@ fn fill(graph: &[u8], slots: &[u64], used: usize, cycles: u32, table: &mut [u8])
     ensures { λ r. ⌜ FillGives (content (now (graph .entry))) (now (table .entry)) (now (table .exit)) r ⌝ }
 {
     let edition = parts::edition(graph);
-    if row_start(edition, parts::most_rows(edition)) <= table.len() {
+    if parts::row_start(edition, parts::most_rows(edition)) <= table.len() {
         return Filled::Rows(plan(graph, slots, used, cycles, table, true));
     }
     let rows = plan(graph, slots, used, cycles, table, false);
-    if table.len() < row_start(edition, rows) {
+    if table.len() < parts::row_start(edition, rows) {
         return Filled::Short;
     }
     plan(graph, slots, used, cycles, table, true);
@@ -71,10 +70,10 @@ fn lay(graph: &[u8], slots: &[u64], used: usize, number: u32, table: &mut [u8]) 
             place: 0,
         };
     };
-    put_header(table, edition, number, rows as u32);
+    put_header(table, edition, number, rows);
     Scheduled::Done {
         cycles: number,
-        rows,
+        rows: rows as usize,
         states: used,
     }
 }

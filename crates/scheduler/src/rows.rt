@@ -74,12 +74,12 @@ fn place(
     table: &mut [u8],
     writing: bool,
     edition: u32,
-    rows: usize,
+    rows: u32,
     word: u32,
     cycle: u32,
     s: State,
     step: Set,
-) -> usize
+) -> u32
     requires { ⌜ (s .values ≡ word → Room writing edition (now table) (rows + 1)) ⌝ }
     requires { ⌜ (rows < mostRows edition) × (cycle < 2 ^ 8) × (s .values < 2 ^ 8) ⌝ }
     ensures { λ r. ⌜ ((g : Graph) → g .edition ≡ edition → Laid g writing (now (table .entry)) (now (table .exit)) rows r (cond (eqb (s .values) word) (record { cycle = cycle; state = stateOf s; step = step } ∷ []) [])) ⌝ }
@@ -97,7 +97,7 @@ fn place(
 // How far a plan has come: the cycles past, the rows so far, and the states of all words.
 pub(crate) struct Progress {
     pub past: u32,
-    pub rows: usize,
+    pub rows: u32,
     pub states: [State; 16],
 }
 
@@ -143,7 +143,7 @@ pub(crate) fn plan(
     cycles: u32,
     table: &mut [u8],
     writing: bool,
-) -> usize
+) -> u32
     requires { ⌜ PlanAsks (content (now graph)) (now slots) used cycles (now table) writing ⌝ }
     ensures { λ r. ⌜ PlanGives (content (now (graph .entry))) writing (now (table .entry)) (now (table .exit)) r ⌝ }
 {

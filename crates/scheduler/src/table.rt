@@ -5,7 +5,7 @@ ghost use mathlib.Core.Path.{_≡_};
 ghost use Prim.Native.Nat.{suc, _+_, _<_, _≤_, _^_};
 ghost use lib.ListN.{length};
 ghost use Rattle.meaning.specs.Graph.{Graph};
-ghost use Rattle.meaning.specs.TableFile.{mostRows, rowStart, bytesOf, headerFile, rowFile};
+ghost use Rattle.meaning.specs.TableFile.{rowStart, bytesOf, headerFile, rowFile};
 ghost use Rattle.steps.specs.States.{stateOf};
 ghost use Rattle.scheduler.specs.Writing.{written};
 
@@ -33,26 +33,17 @@ pub(crate) fn put_header(table: &mut [u8], edition: u32, cycles: u32, rows: u32)
     put(table, 2, 1, edition);
     put(table, 3, 1, cycles);
     put(table, 4, 2, rows);
-    put(table, 6, 2, parts::rows_start(edition) as u32);
-}
-
-// Where the row behind `rows` others stands. Behind the last row this is the table's length.
-pub(crate) fn row_start(edition: u32, rows: usize) -> usize
-    requires { ⌜ rows ≤ mostRows edition ⌝ }
-    ensures { λ r. ⌜ r ≡ rowStart edition (suc rows) ⌝ }
-{
-    parts::rows_start(edition) + parts::row_bytes(edition) * rows
+    put(table, 6, 2, parts::row_start(edition, 0) as u32);
 }
 
 // Writes a row behind `rows` others.
-pub(crate) fn put_row(table: &mut [u8], edition: u32, rows: usize, cycle: u32, s: State, step: Set)
+pub(crate) fn put_row(table: &mut [u8], edition: u32, rows: u32, cycle: u32, s: State, step: Set)
     requires { ⌜ rowStart edition (suc (suc rows)) ≤ length (now table) ⌝ }
-    requires { ⌜ rows ≤ mostRows edition ⌝ }
     requires { ⌜ (cycle < 2 ^ 8) × (s .values < 2 ^ 8) ⌝ }
     ensures { λ _. ⌜ ((g : Graph) → g .edition ≡ edition → now (table .exit) ≡ written (now (table .entry)) (rowStart edition (suc rows))
         (rowFile g (record { cycle = cycle; state = stateOf s; step = step }))) ⌝ }
 {
-    let at = row_start(edition, rows);
+    let at = parts::row_start(edition, rows);
     let size = parts::mask_bytes(edition);
     put(table, at, 1, cycle);
     put(table, at + 1, 1, s.values);

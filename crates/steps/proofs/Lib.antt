@@ -6,3 +6,4 @@ pub mod Above
 pub mod Fewer
 pub mod Eights
 pub mod Unique
+pub mod Outcomes

@@ -8,6 +8,7 @@ pub mod ffi;
 #[path = "peer.rs"]
 pub mod ffi;
 pub mod generate;
+pub mod listing;
 pub mod oracle;
 
 use oracle::{Answer, Reading};

@@ -5,6 +5,7 @@
 //! document 000 count operations from 1; there operation j is number j - 1.
 
 use independent::draft::{arc, case_a, follow, largest, operation, Draft};
+use independent::listing::text;
 use independent::oracle::{Answer, Row, Table, MOST_ROWS};
 use independent::Implementation;
 
@@ -18,18 +19,10 @@ fn implementations() -> impl Iterator<Item = Implementation> {
 
 /// The listing program's text for a draft.
 fn listing(each: &Implementation, draft: &Draft, slots: usize) -> String {
-    let (answer, table) = match schedule(each, draft, slots) {
-        Ok(success) => success,
-        Err(Answer { number, place, .. }) => return format!("refused {number} {place}\n"),
-    };
-    let mut text = format!(
-        "cycles {} rows {} states {}\n",
-        answer.cycles, answer.rows, answer.states
-    );
-    for row in table.rows {
-        text += &format!("{} {} {} {}\n", row.cycle, row.values, row.done, row.step);
+    match schedule(each, draft, slots) {
+        Ok((answer, table)) => text(answer, &table.rows),
+        Err(refused) => text(refused, &[]),
     }
-    text
 }
 
 /// The answer with the table, or the refusal.

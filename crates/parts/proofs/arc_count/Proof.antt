@@ -1,6 +1,5 @@
 -- `parts::arc_count` meets its contract. Assumes nothing.
 use mathlib.Core.Path.{refl}
-use borrow.Author.Needs.{needs}
 use Rattle.meaning.specs.Graph.{arcCount, arcBytes}
 use Rattle.parts.proofs.arc_count.Statement.{statement}
 use Rattle.parts.proofs.arc_count.Tie as tie

@@ -9,9 +9,9 @@ use Rattle.machine.specs.Tables.{scheduleRows}
 use Rattle.meaning.specs.Graph.{Graph, content}
 use Rattle.meaning.specs.Steps.{machineOf}
 use Rattle.meaning.specs.TableFile.{mostRows, rowStart, rowFiles, scheduleFile}
+use Rattle.meaning.proofs.TableFile.{row-mono, schedule-length}
+use Rattle.meaning.proofs.Demands.{few-rows}
 use Rattle.scheduler.specs.Writing.{written}
-use Rattle.scheduler.proofs.RowLaws.{row-mono}
-use Rattle.scheduler.proofs.Answering.{schedule-length, few-rows}
 use borrow.Author.Needs.{needs}
 use Rattle.scheduler.proofs.fill.Statement.{statement}
 use Rattle.scheduler.proofs.fill.Tie as tie
@@ -44,10 +44,7 @@ ample c =
     let e = c .before .before .before in
     subst (λ (k : ℕ). k ≤ length (c .before .before .before .before .before .before .before .args .table .now)) (ends e)
     (le-trans (row-mono (c .before .before .before .edition .result) (rows e) (c .before .before .most-rows .result) (omega (arith, few e, c .before .before .most-rows .ensures)))
-    (omega (arith, c .if1 .taken, c .before .row-start .ensures)))
-
-row-start-requires : tie.Need-row-start-requires
-row-start-requires c κs = omega (arith, c .most-rows .ensures)
+    (omega (arith, c .if1 .taken, c .before .row-start .ensures .right)))
 
 plan-requires : tie.Need-plan-requires
 plan-requires c κs =
@@ -72,14 +69,10 @@ plan-requires-2 c κs = record { planning = c .before .before .before .before .b
 rows-counted : (c : tie.After-plan2) → c .plan2 .result ≡ rows (c .before .before .before .before .before)
 rows-counted c = counted (c .before .before .before .before .before) (c .plan2 .result) (c .plan2 .ensures .count)
 
-row-start-requires-2 : tie.Need-row-start-requires-2
-row-start-requires-2 c κs =
-    omega (arith, few (c .before .before .before .before .before .before .before), rows-counted (c .before .before))
-
 -- where they would end
 end-is : (c : tie.After-row-start2) → c .row-start2 .result ≡ length (scheduleFile (content (c .before .before .before .before .before .before .before .before .before .before .before .before .args .graph .now)))
 end-is c =
-    c .row-start2 .ensures ∙ ap (λ (n : ℕ). rowStart (c .before .before .before .before .before .before .before .before .edition .result) (suc n)) (rows-counted (c .before .before .before))
+    c .row-start2 .ensures .right ∙ ap (λ (n : ℕ). rowStart (c .before .before .before .before .before .before .before .before .edition .result) (suc n)) (rows-counted (c .before .before .before))
     ∙ ends (c .before .before .before .before .before .before .before .before)
 
 same-length-2 : tie.Need-same-length-2
@@ -110,4 +103,4 @@ returns-3 c =
     }
 
 pub fill-spec : {M : Type 1} → statement M
-fill-spec = tie.close (tie.spec (λ c κs. search needs) (λ c κs. search needs) row-start-requires plan-requires (λ c. search needs) returns plan-requires-2 row-start-requires-2 same-length-2 returns-2 plan-requires-3 same-length-3 returns-3)
+fill-spec = tie.close (tie.spec (λ c κs. search needs) (λ c κs. search needs) (λ c κs. search needs) plan-requires (λ c. search needs) returns plan-requires-2 (λ c κs. search needs) same-length-2 returns-2 plan-requires-3 same-length-3 returns-3)

@@ -9,13 +9,13 @@ use Rattle.machine.specs.Machine.{remaining}
 use Rattle.machine.specs.Tables.{scheduleRows}
 use Rattle.meaning.specs.Graph.{Graph, content}
 use Rattle.meaning.specs.Steps.{machineOf}
-use Rattle.meaning.specs.TableFile.{mostRows, rowStart}
+use Rattle.meaning.specs.TableFile.{rowStart}
 use Rattle.meaning.proofs.Taken.{few-operations}
+use Rattle.meaning.proofs.TableFile.{row-mono, schedule-length}
 use Rattle.scheduler.specs.declared.Scheduled.the-variants.{Refused}
 use Rattle.scheduler.specs.Rows.{Planning}
 use Rattle.scheduler.specs.Promise.{Answered, laterLines, RowsIn, FillGives}
-use Rattle.scheduler.proofs.RowLaws.{row-mono}
-use Rattle.scheduler.proofs.Answering.{start-number, planning, no-number, thirteen, fourteen, nothing-left, answered-refused, answered-taken, schedule-length, few-rows, file-written}
+use Rattle.scheduler.proofs.Answering.{start-number, planning, no-number, thirteen, fourteen, nothing-left, answered-refused, answered-taken, file-written}
 use borrow.Author.Needs.{needs}
 use Rattle.scheduler.proofs.lay.Statement.{statement}
 use Rattle.scheduler.proofs.lay.Tie as tie
@@ -53,12 +53,6 @@ module _ (c : tie.After-filled) where
   rows-in : RowsIn (graph (from found)) table (c .before .before .before .before .fill .last .1 .1 .1 .1 .0) (c .filled .given .0 .0)
   rows-in = subst (FillGives (graph (from found)) table (c .before .before .before .before .fill .last .1 .1 .1 .1 .0)) (c .filled .given .1) (c .before .before .before .before .fill .ensures)
 
-  few : c .filled .given .0 .0 ≤ mostRows (c .before .before .before .before .before .before .edition .result)
-  few =
-      subst (λ (k : ℕ). k ≤ mostRows (c .before .before .before .before .before .before .edition .result)) (sym (rows-in .count))
-      (subst (λ (e : ℕ). length (scheduleRows (machineOf (graph (from found)))) ≤ mostRows e) (sym (c .before .before .before .before .before .before .edition .ensures .right))
-      (few-rows (graph (from found)) (from found .pre .accepted) (plans found .numbered)))
-
   headed : rowStart (c .before .before .before .before .before .before .edition .result) 1 ≤ length table
   headed =
       subst (λ (e : ℕ). rowStart e 1 ≤ length table) (sym (c .before .before .before .before .before .before .edition .ensures .right))
@@ -90,10 +84,6 @@ returns-2 c =
     (answered-refused g (laterLines g (length t)) (e .args .used) t 14 0
     (fourteen g (length t) (plans (c .before .before .before .before .before .before .before) .numbered) (short .1)))
 
-cast-put-header : tie.Need-cast-put-header
-unfolding mostRows
-cast-put-header c = omega (arith, few (c .before .before))
-
 put-header-requires : tie.Need-put-header-requires
 put-header-requires c κs =
     let f = c .before .before in (
@@ -116,4 +106,4 @@ returns-3 c =
     (sym (c .before .before .before .before .before .before .before .before .before .before .before .edition .ensures .right)) (number-is (found f)) (rows-in f) (c .before .before .put-header .ensures))
 
 pub lay-spec : {M : Type 1} → statement M
-lay-spec = tie.close (tie.spec (λ c κs. search needs) returns (λ c κs. search needs) fill-requires (λ c. search needs) (λ c. search needs) same-length returns-2 cast-put-header put-header-requires same-length-2 returns-3)
+lay-spec = tie.close (tie.spec (λ c κs. search needs) returns (λ c κs. search needs) fill-requires (λ c. search needs) (λ c. search needs) same-length returns-2 put-header-requires (λ c. search needs) same-length-2 returns-3)

@@ -9,7 +9,7 @@ use borrow.Author.Needs.{needs}
 use borrow.Author.Tests.{lt-ltb, le-ltb}
 use Rattle.machine.specs.Sets.{countBelow}
 use Rattle.meaning.specs.Graph.{content}
-use Rattle.checker.specs.Rows.{OfEdition}
+use Rattle.parts.specs.Fields.{OfEdition}
 use Rattle.checker.proofs.RowLaws.{counted, earlier-more, start-of-cycle}
 use Rattle.checker.proofs.rows.cycle_start.Statement.{statement}
 use Rattle.checker.proofs.rows.cycle_start.Tie as tie
@@ -45,7 +45,7 @@ loop-again c =
 returns : tie.Need-returns Inv-loop μ-loop
 returns c file of =
     let l = c .before .before .loop in
-    c .row-place .ensures
+    c .row-start .ensures .right
     ∙ rw (← of) (start-of-cycle file _ _ _ _ _ (c .before .before .before .row-count .ensures .right) (l .inv .0) (c .before .loop-test .left) (l .inv .2 (content file) of))
 
 pub cycle-start-spec : {M : Type 1} → statement M

@@ -10,8 +10,8 @@ use Rattle.machine.specs.Tables.{orderLine}
 use Rattle.machine.proofs.Loops.{SoFar}
 use Rattle.machine.proofs.Refusals.{refused-at, taken-after}
 use Rattle.meaning.specs.TableFile.{tableIn}
+use Rattle.parts.specs.Fields.{OfEdition}
 use Rattle.reader.specs.Reading.{verdictOf}
-use Rattle.checker.specs.Rows.{OfEdition}
 use Rattle.checker.proofs.RowLaws.{order, ordered-first, order-fault}
 use Rattle.checker.proofs.rows.disorder.Statement.{statement}
 use Rattle.checker.proofs.rows.disorder.Tie as tie
@@ -67,6 +67,7 @@ disorder-spec =
     (λ c κs. search needs)
     (λ c κs. search needs)
     (λ c κs. search needs)
+    (λ c. search needs)
     (λ c. search needs)
     returns
     (λ c. search needs)

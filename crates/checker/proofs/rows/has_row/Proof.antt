@@ -9,8 +9,8 @@ use Rattle.machine.specs.Tables.{standsAt, hasRow}
 use Rattle.machine.proofs.Loops.{SoFar, any-found, any-none}
 use Rattle.meaning.specs.Steps.{machineOf}
 use Rattle.meaning.specs.TableFile.{tableIn}
+use Rattle.parts.specs.Fields.{OfEdition}
 use Rattle.steps.specs.States.{stateOf}
-use Rattle.checker.specs.Rows.{OfEdition}
 use Rattle.checker.proofs.rows.has_row.Statement.{statement}
 use Rattle.checker.proofs.rows.has_row.Tie as tie
 

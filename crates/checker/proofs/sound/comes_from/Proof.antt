@@ -11,7 +11,7 @@ returns c = not-came _ _ _ _ _ (c .before .before .before .row-in .ensures .righ
 returns-2 : tie.Need-returns-2
 returns-2 c =
     let d = c .before .before .before .before .before in
-    came _ _ _ _ _ (d .row-in .ensures .right) (d .before .before .before .pre .0) (omega arith) (c .before .fork-of .ensures) _
+    came _ _ _ _ _ (d .row-in .ensures .right) (d .before .before .before .pre) (omega arith) (c .before .fork-of .ensures) _
     (c .before .before .if1 .left) (c .leads .ensures)
 
 pub comes-from-spec : {M : Type 1} → statement M

@@ -25,7 +25,7 @@ returns c =
     let l = c .before .before .before .before in
     let n = l .before in
     let d = n .before .before .before in
-    continues-row _ _ _ _ (d .row-in .ensures .right) (d .before .before .before .pre .0) (omega arith)
+    continues-row _ _ _ _ (d .row-in .ensures .right) (d .before .before .before .pre) (omega arith)
     (n .before .fork-of .ensures) _
     (sym (all-broken _ _ (l .loop .w) (omega (arith, n .word-count .ensures))
     (rw (← c .before .before .fallen .ensures) (sym (c .before .covered .ensures) ∙ not-true _ (c .if1 .taken)))))
@@ -39,7 +39,7 @@ returns-2 : tie.Need-returns-2 Inv-loop μ-loop
 returns-2 c =
     let n = c .before .before in
     let d = n .before .before .before in
-    continues-row _ _ _ _ (d .row-in .ensures .right) (d .before .before .before .pre .0) (omega arith)
+    continues-row _ _ _ _ (d .row-in .ensures .right) (d .before .before .before .pre) (omega arith)
     (n .before .fork-of .ensures) _
     (sym (all-done _ _ _ (omega (arith, n .word-count .ensures)) (c .before .loop .inv)))
 

@@ -64,6 +64,7 @@ gap-spec =
     loop-holds
     (λ c κs. search needs)
     (λ c. search needs)
+    (λ c. search needs)
     returns-2
     (λ c. search needs)
     (λ c. search needs)

@@ -37,7 +37,7 @@ put-row-requires c κs =
     let a = start .args in
     let room = start .pre .0 (c .before .before .if1 .left) (of-true (not-false (a .writing) (c .before .if2 .left))) in (
       subst (λ (k : ℕ). rowStart (a .edition) (suc k) ≤ length (a .table .now)) (add-one (a .rows)) room,
-      (omega (arith, start .pre .1 .0), (start .pre .1 .1, start .pre .1 .2)),
+      (start .pre .1 .1, start .pre .1 .2),
     )
 
 add-result-2 : tie.Need-add-result-2

@@ -20,7 +20,7 @@ returns c =
     header-written (a .table .now) (first .put .last .0) (second .put2 .last .0) (third .put3 .last .0) (fourth .put4 .last .0) (fifth .put5 .last .0)
     (a .edition) (a .cycles) (a .rows) (start .pre .0) (start .pre .1 .0) (start .pre .1 .1)
     (first .put .ensures) (second .put2 .ensures) (third .put3 .ensures) (fourth .put4 .ensures)
-    (fifth .put5 .ensures ∙ ap (λ (k : ℕ). written (fourth .put4 .last .0) 6 (bytesOf 2 k)) (fifth .before .rows-start .ensures))
+    (fifth .put5 .ensures ∙ ap (λ (k : ℕ). written (fourth .put4 .last .0) 6 (bytesOf 2 k)) (fifth .before .row-start .ensures .right))
 
 pub put-header-spec : {M : Type 1} → statement M
 unfolding rowStart

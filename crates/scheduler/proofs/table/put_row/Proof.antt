@@ -20,7 +20,7 @@ room : (c : tie.After-mask-bytes)
 unfolding rowBytes
 room c =
     let start = c .before .before .before in
-    omega (arith, row-next (start .args .edition) (start .args .rows), start .pre .0, c .before .row-start .ensures, c .mask-bytes .ensures)
+    omega (arith, row-next (start .args .edition) (start .args .rows), start .pre .0, c .before .row-start .ensures .right, c .mask-bytes .ensures)
 
 returns : tie.Need-returns
 unfolding rowBytes
@@ -36,9 +36,9 @@ returns c = λ g e.
     let size : asked .mask-bytes .result ≡ maskBytes (g .edition) = asked .mask-bytes .ensures ∙ ap maskBytes (sym e) in
     let row : Row (machineOf g) = record { cycle = a .cycle; state = stateOf (a .s); step = a .step } in
     row-written g row (a .table .now) (first .put .last .0) (second .put2 .last .0)
-    (third .put3 .last .0) (fourth .put4 .last .0) at (omega (arith, size, room asked)) (start .pre .1 .1 .0) (start .pre .1 .1 .1)
+    (third .put3 .last .0) (fourth .put4 .last .0) at (omega (arith, size, room asked)) (start .pre .1 .0) (start .pre .1 .1)
     (first .put .ensures) (second .put2 .ensures) (rw size at (third .put3 .ensures)) (rw size at (fourth .put4 .ensures))
-    ∙ ap (λ (k : ℕ). written (a .table .now) k (rowFile g row)) (asked .before .row-start .ensures)
+    ∙ ap (λ (k : ℕ). written (a .table .now) k (rowFile g row)) (asked .before .row-start .ensures .right)
 
 pub put-row-spec : {M : Type 1} → statement M
 put-row-spec =
