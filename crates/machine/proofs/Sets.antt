@@ -306,9 +306,6 @@ has-mask (suc n) f j h =
     (λ (e : j ≡ n). subst (λ (k : ℕ). has (maskBelow n f + cond (f n) (2 ^ n) 0) k ≡ f k) (sym e) (join-top (maskBelow n f) n (f n) (mask-lt n f)))
     (below-cases h)
 
-pub has-mask-high : (n : ℕ) (f : ℕ → Bool) (j : ℕ) → n ≤ j → has (maskBelow n f) j ≡ false
-has-mask-high n f j h = has-high (maskBelow n f) n j (mask-lt n f) h
-
 -- a set is the set of its members
 pub mask-of-has : (n m : ℕ) → m < 2 ^ n → maskBelow n (has m) ≡ m
 unfolding maskBelow has

@@ -35,12 +35,6 @@ unfolding bytesOf
 bytes-small zero x = empty
 bytes-small (suc size) x = more (mod-lt x (omega arith)) (bytes-small size (x / 256))
 
-pub byte-small : {l : List ℕ} → AreBytes l → (i : ℕ) → byteAt l i < 256
-unfolding byteAt
-byte-small empty i = omega arith
-byte-small (more h t) zero = h
-byte-small (more h t) (suc i) = byte-small t i
-
 -- what stands behind a first part, counted from there
 pub byte-after : (p l : List ℕ) (i : ℕ) → byteAt (p ++ l) (length p + i) ≡ byteAt l i
 unfolding byteAt
