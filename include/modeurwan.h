@@ -33,7 +33,7 @@ enum {
     MODEURWAN_GRAPH_MARK = 2,         /* mark or edition differs */
     MODEURWAN_GRAPH_COUNT = 3,        /* a count is above its maximum */
     MODEURWAN_GRAPH_OFFSET = 4,       /* an offset differs */
-    MODEURWAN_GRAPH_LENGTH = 5,       /* the length differs */
+    MODEURWAN_GRAPH_LENGTH = 5,       /* the length differs; a list to write ends inside a record */
     MODEURWAN_CLASS = 6,              /* class not below the classes; place: operation */
     MODEURWAN_PATH = 7,               /* a path mask's bits; place: operation */
     MODEURWAN_CONTROL = 8,            /* a control's operation; place: control */
@@ -42,7 +42,7 @@ enum {
     MODEURWAN_JOIN = 11,              /* a literal of the source's path is lost on the way; place: arc */
     MODEURWAN_SLOTS = 12,             /* more reachable states than work slots lent */
     MODEURWAN_NO_SCHEDULE = 13,       /* no table would be accepted */
-    MODEURWAN_ROOM = 14,              /* the lent table buffer is too short */
+    MODEURWAN_ROOM = 14,              /* the lent table buffer or output is too short */
     MODEURWAN_TABLE_LAYOUT = 15,      /* length, mark, edition, offset or row count of the table */
     MODEURWAN_TABLE_ORDER = 16,       /* row not above the row before; place: row, from 1 */
     MODEURWAN_ROW_STATE = 17,         /* row's state is not met in its cycle; place: row */
@@ -63,12 +63,18 @@ struct modeurwan_answer {
     size_t cycles, rows, states;
 };
 
+/* What writing a graph gives: a refusal number with its place and length 0, or 0 with the length of the file. */
+struct modeurwan_writing {
+    size_t number, place;
+    size_t length;
+};
+
 /* A part of a table: the bytes from start on, up to and without end. */
 struct modeurwan_part {
     size_t start, end;
 };
 
-/* Reads a graph file: refusals 1 to 11. No graph (NULL, 0) is refused by 1, here and in every function below. */
+/* Reads a graph file: refusals 1 to 11. No graph (NULL, 0) is refused by 1, here and in every function that takes a graph. */
 struct modeurwan_reading modeurwan_read(const uint8_t *graph, size_t graph_length);
 
 /* Schedules a graph file: refusals 1 to 14, or the shortest table, written to the front of `table`, with its cycles, rows
@@ -88,6 +94,18 @@ struct modeurwan_answer modeurwan_check(const uint8_t *graph, size_t graph_lengt
  * or above the table's. */
 struct modeurwan_part modeurwan_rows_of(const uint8_t *graph, size_t graph_length, const uint8_t *table,
                                         size_t table_length, uint32_t cycle);
+
+/* Writes the one graph file that holds these lists to the front of `output`. The lists hold records one behind the other, every
+ * field one byte: an operation is its class, path-true mask and path-false mask; a limit is a unit count; a control is the
+ * operation that produces it; an arc is source, target, kind, true mask and false mask. Lengths are in bytes. Counts and
+ * offsets come from the lists. Refusals, in this order: 2 for an edition that there is not; 3 for more whole records than the
+ * maximum; 5 for a list that ends inside a record; 6 to 11 as reading the file would give them; 14 for an output shorter than
+ * the file. After a refusal `output` holds what it held, and after success what it held past the file. MODEURWAN_LARGEST_GRAPH
+ * bytes are always room. `output` overlaps no list; the lists may overlap. An empty list is (NULL, 0), and so is no output. */
+struct modeurwan_writing modeurwan_write(uint8_t edition, const uint8_t *operations, size_t operations_length,
+                                         const uint8_t *limits, size_t limits_length, const uint8_t *controls,
+                                         size_t controls_length, const uint8_t *arcs, size_t arcs_length, uint8_t *output,
+                                         size_t output_room);
 
 #ifdef __cplusplus
 }

@@ -16,6 +16,21 @@ static const uint8_t graph[] = {
     1, 3, 0, 1, 0, 2, 3, 0, 0, 1,                             /* arcs */
 };
 
+/* The lists of a graph, as modeurwan_write takes them. */
+struct list {
+    const uint8_t *bytes;
+    size_t length;
+};
+
+struct lists {
+    struct list operations, limits, controls, arcs;
+};
+
+/* Case J's lists, where they stand in its file; their lengths differ. */
+static const struct lists lists_of_graph = {
+    .operations = {graph + 19, 12}, .limits = {graph + 16, 3}, .controls = {graph + 31, 1}, .arcs = {graph + 32, 10}};
+static const struct list no_list = {NULL, 0};
+
 static uint64_t slots[SLOTS];
 static uint8_t table[MODEURWAN_LARGEST_TABLE];
 static size_t table_length;
@@ -52,6 +67,19 @@ static void same_part(const char *call, struct modeurwan_part found, struct mode
 {
     same(call, "start", found.start, due.start);
     same(call, "end", found.end, due.end);
+}
+
+static void same_writing(const char *call, struct modeurwan_writing found, struct modeurwan_writing due)
+{
+    same(call, "number", found.number, due.number);
+    same(call, "place", found.place, due.place);
+    same(call, "length", found.length, due.length);
+}
+
+static struct modeurwan_writing write_lists(struct lists lists, uint8_t *output, size_t room)
+{
+    return modeurwan_write(1, lists.operations.bytes, lists.operations.length, lists.limits.bytes, lists.limits.length,
+                           lists.controls.bytes, lists.controls.length, lists.arcs.bytes, lists.arcs.length, output, room);
 }
 
 /* All bytes of a buffer are `byte`. */
@@ -131,11 +159,74 @@ static void no_slots_no_table(void)
     same_part("rows of no table", modeurwan_rows_of(graph, sizeof graph, NULL, 0, 1), (struct modeurwan_part){0, 0});
 }
 
+/* The lists of case J give its file; lists that overlap are as good as others. */
+static void written(void)
+{
+    static const uint8_t zeros[3];
+    struct lists overlapping = {.operations = {zeros, 3}, .limits = {zeros, 1}, .controls = {zeros, 1}};
+    uint8_t output[MODEURWAN_LARGEST_GRAPH];
+    memset(output, 0xa5, sizeof output);
+    same_writing("write", write_lists(lists_of_graph, output, sizeof output),
+                 (struct modeurwan_writing){.length = sizeof graph});
+    for (size_t i = 0; i < sizeof graph; i++)
+        same("write", "a byte of the file", output[i], graph[i]);
+    all_are("write", output + sizeof graph, sizeof output - sizeof graph, 0xa5);
+    same_writing("write overlapping lists", write_lists(overlapping, output, sizeof output),
+                 (struct modeurwan_writing){.length = 21});
+    same_reading("read what overlapping lists gave", modeurwan_read(output, 21),
+                 (struct modeurwan_reading){.operations = 1, .classes = 1, .controls = 1});
+}
+
+/* Refusals of the writer, one whose number is not its place: a class that there is not, at operation 2. */
+static void not_written(void)
+{
+    uint8_t operations[12], output[sizeof graph];
+    struct lists lists = lists_of_graph;
+    memcpy(operations, lists.operations.bytes, sizeof operations);
+    memset(output, 0xa5, sizeof output);
+    operations[3 * 2] = 3;
+    lists.operations.bytes = operations;
+    same_writing("write, refused", write_lists(lists, output, sizeof output),
+                 (struct modeurwan_writing){.number = MODEURWAN_CLASS, .place = 2});
+    same_writing("write, edition 2", modeurwan_write(2, NULL, 0, NULL, 0, NULL, 0, NULL, 0, output, sizeof output),
+                 (struct modeurwan_writing){.number = MODEURWAN_GRAPH_MARK});
+    same_writing("write, a byte too little", write_lists(lists_of_graph, output, sizeof output - 1),
+                 (struct modeurwan_writing){.number = MODEURWAN_ROOM});
+    all_are("write, refused", output, sizeof output, 0xa5);
+}
+
+/* NULL and length 0 for each list of case J, for all of them, and for the output: what needs the list is refused, and a file
+ * without arcs, or with nothing but its header, is a file. */
+static void no_lists_no_output(void)
+{
+    struct modeurwan_writing no_room = {.number = MODEURWAN_ROOM};
+    struct lists no_operations = lists_of_graph, no_limits = lists_of_graph, no_controls = lists_of_graph;
+    struct lists no_arcs = lists_of_graph, nothing = {no_list, no_list, no_list, no_list};
+    uint8_t output[MODEURWAN_LARGEST_GRAPH];
+    no_operations.operations = no_limits.limits = no_controls.controls = no_arcs.arcs = no_list;
+    same_writing("write, no operations", write_lists(no_operations, output, sizeof output),
+                 (struct modeurwan_writing){.number = MODEURWAN_CONTROL, .place = 0});
+    same_writing("write, no limits", write_lists(no_limits, output, sizeof output),
+                 (struct modeurwan_writing){.number = MODEURWAN_CLASS, .place = 0});
+    same_writing("write, no controls", write_lists(no_controls, output, sizeof output),
+                 (struct modeurwan_writing){.number = MODEURWAN_PATH, .place = 1});
+    same_writing("write, no arcs", write_lists(no_arcs, output, sizeof output), (struct modeurwan_writing){.length = 32});
+    same_reading("read what has no arcs", modeurwan_read(output, 32),
+                 (struct modeurwan_reading){.operations = 4, .classes = 3, .controls = 1});
+    same_writing("write nothing", write_lists(nothing, output, sizeof output), (struct modeurwan_writing){.length = 16});
+    same_reading("read nothing", modeurwan_read(output, 16), (struct modeurwan_reading){.number = MODEURWAN_OK});
+    same_writing("write, no output", write_lists(lists_of_graph, NULL, 0), no_room);
+    same_writing("write nothing, no output", write_lists(nothing, NULL, 0), no_room);
+}
+
 int main(void)
 {
     successes();
     refusals();
     no_graph();
     no_slots_no_table();
+    written();
+    not_written();
+    no_lists_no_output();
     return wrong;
 }

@@ -34,35 +34,81 @@ static void *buffer(size_t size)
     return bytes;
 }
 
+static void serve_read(void)
+{
+    uint64_t length = number();
+    uint8_t *graph = buffer(length);
+    struct modeurwan_reading reading = modeurwan_read(graph, length);
+    send(&reading, sizeof reading);
+    free(graph);
+}
+
+static void serve_schedule(void)
+{
+    uint64_t length = number(), slot_count = number(), room = number();
+    uint8_t *graph = buffer(length);
+    uint64_t *slots = buffer(slot_count * sizeof *slots);
+    uint8_t *table = buffer(room);
+    struct modeurwan_answer answer = modeurwan_schedule(graph, length, slots, slot_count, table, room);
+    send(&answer, sizeof answer);
+    send(slots, slot_count * sizeof *slots);
+    send(table, room);
+    free(graph);
+    free(slots);
+    free(table);
+}
+
+static void serve_check(void)
+{
+    uint64_t length = number(), table_length = number();
+    uint8_t *graph = buffer(length), *table = buffer(table_length);
+    struct modeurwan_answer answer = modeurwan_check(graph, length, table, table_length);
+    send(&answer, sizeof answer);
+    free(graph);
+    free(table);
+}
+
+static void serve_rows_of(void)
+{
+    uint64_t length = number(), table_length = number(), cycle = number();
+    uint8_t *graph = buffer(length), *table = buffer(table_length);
+    struct modeurwan_part part = modeurwan_rows_of(graph, length, table, table_length, (uint32_t)cycle);
+    send(&part, sizeof part);
+    free(graph);
+    free(table);
+}
+
+static void serve_write(void)
+{
+    uint64_t edition = number();
+    uint64_t operations_length = number(), limits_length = number(), controls_length = number(), arcs_length = number();
+    uint64_t room = number();
+    uint8_t *operations = buffer(operations_length), *limits = buffer(limits_length);
+    uint8_t *controls = buffer(controls_length), *arcs = buffer(arcs_length), *output = buffer(room);
+    struct modeurwan_writing writing =
+        modeurwan_write((uint8_t)edition, operations, operations_length, limits, limits_length, controls, controls_length, arcs,
+                        arcs_length, output, room);
+    send(&writing, sizeof writing);
+    send(output, room);
+    free(operations);
+    free(limits);
+    free(controls);
+    free(arcs);
+    free(output);
+}
+
 int main(void)
 {
     for (int function = getchar(); function != EOF; function = getchar()) {
-        uint64_t length = number(), second = number(), third = number();
-        uint8_t *graph = buffer(length);
-        void *other = NULL, *table = NULL;
-        if (function == 'r') {
-            struct modeurwan_reading reading = modeurwan_read(graph, length);
-            send(&reading, sizeof reading);
-        } else if (function == 's') {
-            other = buffer(second * sizeof(uint64_t));
-            table = buffer(third);
-            struct modeurwan_answer answer = modeurwan_schedule(graph, length, other, second, table, third);
-            send(&answer, sizeof answer);
-            send(other, second * sizeof(uint64_t));
-            send(table, third);
-        } else if (function == 'c') {
-            other = buffer(second);
-            struct modeurwan_answer answer = modeurwan_check(graph, length, other, second);
-            send(&answer, sizeof answer);
-        } else {
-            other = buffer(second);
-            struct modeurwan_part part = modeurwan_rows_of(graph, length, other, second, (uint32_t)third);
-            send(&part, sizeof part);
+        switch (function) {
+        case 'r': serve_read(); break;
+        case 's': serve_schedule(); break;
+        case 'c': serve_check(); break;
+        case 'q': serve_rows_of(); break;
+        case 'w': serve_write(); break;
+        default: return 2;
         }
         fflush(stdout);
-        free(graph);
-        free(other);
-        free(table);
     }
     return 0;
 }

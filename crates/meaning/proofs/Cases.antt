@@ -1,6 +1,8 @@
--- P1 to P11, and the listing of case A, by computation. Assumes nothing.
+-- P1 to P11, the listing of case A, and what the writer writes, by computation. Assumes nothing.
+use Prim.Native.Nat.{ℕ}
 use mathlib.Core.Path.{_≡_, refl}
-use mathlib.Core.List.{map, flatMap}
+use mathlib.Core.List.{List, map, flatMap}
+use lib.ListN.{replicate}
 use Rattle.machine.specs.Sets.{has, allBelow, anyBelow, countBelow, firstBelow, maskBelow, listBelow}
 use Rattle.machine.specs.Refusals.{judge}
 use Rattle.machine.specs.Machine.{finish, remaining, leads, best, run, holds, added, successors, reached, stateCount}
@@ -10,7 +12,8 @@ use Rattle.meaning.specs.Steps.{resolved, lost, excluded, void, complete
 use Rattle.meaning.specs.TableFile.{maskBytes, rowBytes, mostRows, rowStart, cyclesOf, rowsOf, layoutLine, tableIn, bytesOf, headerFile, rowFile, rowFiles, tableFile, scheduleFile}
 use Rattle.meaning.specs.Answers.{answer, isTaken, graphLines, graphVerdict, scheduleLines, scheduleVerdict, scheduler, slotsAfter, tableAfter, tableLines, checkVerdict, checker}
 use Rattle.meaning.specs.Listing.{ascii, digits, decimal, field, firstLine, rowLine, printed}
-use Rattle.meaning.specs.Cases.{computed, expected, padded, cases, prints}
+use Rattle.meaning.specs.Writer.{Writing, torn, graphHeader, graphFile, listLines, writeLines, writing, writeVerdict, writer, outputAfter}
+use Rattle.meaning.specs.Cases.{computed, expected, padded, cases, prints, writings}
 
 pub cases-hold : map computed cases ≡ map expected cases
 unfolding has allBelow anyBelow countBelow firstBelow maskBelow listBelow judge finish remaining leads best run holds added successors flatMap reached stateCount rises standsAt hasRow prescribed follows continues lastCycle orderLine soundLines scheduleRows known mostOperations mostClasses mostControls mostArcs operationBytes arcBytes byteAt littleEndian numberAt editionOf operationsOf classesOf controlsOf arcsOf operationsStart controlsStart arcsStart fileEnd fileLines content names misnamed lacks operationCount classCount controlCount arcCount limit class path producer source target kind joins strayPath unordered followsJoin contentLines resolved lost excluded void complete heldBack demanded overfull legal after before same maskBytes rowBytes mostRows rowStart cyclesOf rowsOf layoutLine tableIn bytesOf headerFile rowFile rowFiles tableFile scheduleFile answer isTaken graphLines graphVerdict scheduleLines scheduleVerdict scheduler slotsAfter tableAfter tableLines checkVerdict checker computed expected padded
@@ -20,3 +23,9 @@ cases-hold = refl
 pub prints-hold : map (λ p. printed (p .file)) prints ≡ map (λ p. ascii (p .text)) prints
 unfolding has allBelow anyBelow countBelow firstBelow maskBelow listBelow judge finish remaining leads best run holds added successors flatMap reached stateCount rises standsAt hasRow prescribed follows continues lastCycle orderLine soundLines scheduleRows known mostOperations mostClasses mostControls mostArcs operationBytes arcBytes byteAt littleEndian numberAt editionOf operationsOf classesOf controlsOf arcsOf operationsStart controlsStart arcsStart fileEnd fileLines content names misnamed lacks operationCount classCount controlCount arcCount limit class path producer source target kind joins strayPath unordered followsJoin contentLines resolved lost excluded void complete heldBack demanded overfull legal after before same maskBytes rowBytes mostRows rowStart cyclesOf rowsOf layoutLine tableIn bytesOf headerFile rowFile rowFiles tableFile scheduleFile answer isTaken graphLines graphVerdict scheduleLines scheduleVerdict scheduler slotsAfter tableAfter tableLines checkVerdict checker ascii digits decimal field firstLine rowLine printed prints
 prints-hold = refl
+
+-- Case A from lists, with room and without, and refusals of lists.
+pub writings-hold : map {B = Writing × List ℕ} (λ w. (writer (w .graph) (replicate (w .room) 7), outputAfter (w .graph) (replicate (w .room) 7))) writings
+    ≡ map {B = Writing × List ℕ} (λ w. (w .answer, w .output)) writings
+unfolding has allBelow anyBelow firstBelow judge known mostOperations mostClasses mostControls mostArcs operationBytes arcBytes byteAt names misnamed lacks operationCount classCount controlCount arcCount class path producer source target kind joins strayPath unordered followsJoin contentLines bytesOf isTaken torn graphHeader graphFile listLines writeLines writing writeVerdict writer outputAfter writings
+writings-hold = refl

@@ -4,11 +4,11 @@ use Prim.Native.Nat.{ℕ, suc, _+_, _≤_, _<_}
 use native.Mathlib.Omega.{arith}
 use mathlib.Core.Path.{_≡_, refl, sym, _∙_, ap}
 use mathlib.Core.Logic.{⊎-elim}
-use mathlib.Core.Bool.{Bool, true, false, cond, not, _&&_, _||_}
+use mathlib.Core.Bool.{Bool, true, false, cond, not, _&&_}
 use mathlib.Core.List.{List, [], _++_, append-nil, flatMap}
 use lib.ListN.{length, take, drop}
 use lib.Seq.{length-take-le, take-all, take-take, getD-take}
-use lib.Dec.{T, eqb, ltb}
+use lib.Dec.{eqb}
 use borrow.Author.Tests.{le-ltb, ne-eqb}
 use Rattle.machine.specs.Refusals.{Line, Verdict, taken, refused, judge}
 use Rattle.machine.specs.Machine.{Machine, remaining, stateCount}
@@ -16,12 +16,12 @@ use Rattle.machine.specs.Tables.{scheduleRows}
 use Rattle.machine.proofs.Truth.{of-false}
 use Rattle.machine.proofs.Sets.{le-or-lt}
 use Rattle.machine.proofs.Refusals.{otherwise, judge-append, placeless-first}
-use Rattle.meaning.specs.Graph.{known, mostOperations, mostClasses, mostControls, mostArcs, operationBytes, arcBytes, byteAt, littleEndian, numberAt, editionOf, operationsOf, classesOf, controlsOf, arcsOf, operationsStart, controlsStart, arcsStart, fileEnd, fileLines, content, contentLines}
+use Rattle.meaning.specs.Graph.{known, tooMany, byteAt, littleEndian, numberAt, editionOf, operationsOf, classesOf, controlsOf, arcsOf, operationsStart, controlsStart, arcsStart, fileEnd, fileLines, content, contentLines}
 use Rattle.meaning.specs.Steps.{machineOf}
 use Rattle.meaning.specs.TableFile.{rowStart, mostRows}
 use Rattle.meaning.specs.Answers.{isTaken, graphLines, scheduleLines}
 use Rattle.meaning.specs.Listing.{firstLine, rowLine, printed}
-use Rattle.meaning.proofs.Taken.{denies-counts}
+use Rattle.meaning.proofs.Taken.{denies-counts, largest}
 
 -- what lines 2, 3 and 4 ask
 module _ (file : List ℕ) where
@@ -29,9 +29,7 @@ module _ (file : List ℕ) where
   wrongMark = not (eqb (byteAt file 0) 0x48 && eqb (byteAt file 1) 0x53 && known (editionOf file))
 
   unfoldable wrongCount : Bool
-  wrongCount =
-      ltb (mostOperations (editionOf file)) (operationsOf file) || ltb (mostClasses (editionOf file)) (classesOf file)
-      || ltb (mostControls (editionOf file)) (controlsOf file) || ltb (mostArcs (editionOf file)) (arcsOf file)
+  wrongCount = tooMany (editionOf file) (operationsOf file) (classesOf file) (controlsOf file) (arcsOf file)
 
   unfoldable wrongOffset : Bool
   wrongOffset =
@@ -44,8 +42,11 @@ module _ (file : List ℕ) where
 
   -- counts within the maxima leave a file of 1,480 bytes at most
   end-within : wrongCount ≡ false → fileEnd file ≤ 1480
-  unfolding wrongCount mostOperations mostClasses mostControls mostArcs fileEnd arcsStart controlsStart operationsStart operationBytes arcBytes
-  end-within e = let most = denies-counts file .to (of-false e) in omega (arith, most .0 .0 .0, most .0 .0 .1, most .0 .1, most .1)
+  unfolding wrongCount fileEnd arcsStart controlsStart operationsStart
+  end-within e =
+      let most = denies-counts file .to (of-false e) in
+      largest (editionOf file) (operationsOf file) (classesOf file) (controlsOf file) (arcsOf file)
+      (most .0 .0 .0) (most .0 .0 .1) (most .0 .1) (most .1)
 
   module _ (long : 1480 < length file) where
     head-is : judge (fileLines file) ≡ headVerdict

@@ -10,3 +10,4 @@ pub mod Demands
 pub mod Sentences
 pub mod Listing
 pub mod Kept
+pub mod Writer

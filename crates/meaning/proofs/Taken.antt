@@ -1,6 +1,6 @@
 -- What a graph guarantees whose file passes refusals 1 to 5 and whose content passes refusals 6 to 11, a named fact or
 -- more for each refusal. Assumes nothing.
-use Prim.Native.Nat.{ℕ, _-_, _^_, _/_, _≤_, _<_}
+use Prim.Native.Nat.{ℕ, _+_, _-_, _*_, _^_, _/_, _≤_, _<_}
 use native.Mathlib.Nat.{le-refl, mul-div-right}
 use native.Mathlib.Omega.{arith}
 use mathlib.Core.Path.{_≡_, sym, _∙_, ap, subst}
@@ -14,7 +14,7 @@ use Rattle.machine.specs.Sets.{has, anyBelow}
 use Rattle.machine.proofs.Says.{Denies, says-test, denies-test, denies-leb, says-ltb, denies-ltb, says-eqb, denies-eqb, denies-not, says-and, says-or, denies-or, denies-and, denies-any}
 use Rattle.machine.specs.Refusals.{taken as accepts}
 use Rattle.machine.proofs.Refusals.{AllPass, none, and, pass-append, judge-taken}
-use Rattle.meaning.specs.Graph.{known, mostOperations, mostClasses, mostControls, mostArcs, operationBytes, arcBytes, byteAt, numberAt, editionOf, operationsOf, classesOf, controlsOf, arcsOf, operationsStart, controlsStart, arcsStart, fileEnd, fileLines, content, Graph, Literals, names, misnamed, lacks, operationCount, classCount, controlCount, arcCount, class, path, producer, source, target, kind, joins, strayPath, unordered, followsJoin, contentLines}
+use Rattle.meaning.specs.Graph.{known, mostOperations, mostClasses, mostControls, mostArcs, tooMany, operationBytes, arcBytes, byteAt, numberAt, editionOf, operationsOf, classesOf, controlsOf, arcsOf, operationsStart, controlsStart, arcsStart, fileEnd, fileLines, content, Graph, Literals, names, misnamed, lacks, operationCount, classCount, controlCount, arcCount, class, path, producer, source, target, kind, joins, strayPath, unordered, followsJoin, contentLines}
 use Rattle.meaning.specs.Answers.{graphLines, graphVerdict}
 
 -- The masks have no bit at c or above, and share no bit.
@@ -174,6 +174,20 @@ module _ (g : Graph) where
       (record { on-true = t .source-true a h; on-false = t .source-false a h }))
       none)))))
 
+-- Refusal 3, for any counts: none is above its maximum.
+module _ (e n k c a : ℕ) where
+  pub denies-many : Denies (tooMany e n k c a)
+      ((((n ≤ mostOperations e) × (k ≤ mostClasses e)) × (c ≤ mostControls e)) × (a ≤ mostArcs e))
+  denies-many =
+      denies-or (denies-or (denies-or (denies-ltb (mostOperations e) n) (denies-ltb (mostClasses e) k)) (denies-ltb (mostControls e) c))
+      (denies-ltb (mostArcs e) a)
+
+  -- a file of such counts has 1,480 bytes at most
+  pub largest : n ≤ mostOperations e → k ≤ mostClasses e → c ≤ mostControls e → a ≤ mostArcs e
+      → 16 + k + operationBytes e * n + c + arcBytes * a ≤ 1480
+  unfolding mostOperations mostClasses mostControls mostArcs operationBytes arcBytes
+  largest operations classes controls arcs = omega arith
+
 -- Refusals 1 to 5, in order.
 pub record Filed (file : List ℕ) : Type 0 where
   -- 1
@@ -202,16 +216,10 @@ module _ (file : List ℕ) where
       denies-not (says-and (says-and (says-eqb (byteAt file 0) 0x48) (says-eqb (byteAt file 1) 0x53)) (says-test (known (editionOf file))))
 
   pub denies-counts : let e = editionOf file in
-      Denies
-      (ltb (mostOperations e) (operationsOf file) || ltb (mostClasses e) (classesOf file)
-      || ltb (mostControls e) (controlsOf file) || ltb (mostArcs e) (arcsOf file))
+      Denies (tooMany e (operationsOf file) (classesOf file) (controlsOf file) (arcsOf file))
       ((((operationsOf file ≤ mostOperations e) × (classesOf file ≤ mostClasses e)) × (controlsOf file ≤ mostControls e))
       × (arcsOf file ≤ mostArcs e))
-  denies-counts =
-      let e = editionOf file in
-      denies-or (denies-or
-      (denies-or (denies-ltb (mostOperations e) (operationsOf file)) (denies-ltb (mostClasses e) (classesOf file)))
-      (denies-ltb (mostControls e) (controlsOf file))) (denies-ltb (mostArcs e) (arcsOf file))
+  denies-counts = denies-many (editionOf file) (operationsOf file) (classesOf file) (controlsOf file) (arcsOf file)
 
   denies-offsets : Denies
       (not (eqb (numberAt file 8 2) 16 && eqb (numberAt file 10 2) (operationsStart file)
@@ -277,6 +285,10 @@ module _ {g : Graph} (w : Within g) where
   unfolding mostControls
   few-controls = w .controls
 
+  pub few-arcs : arcCount g ≤ 276
+  unfolding mostArcs
+  few-arcs = w .arcs
+
 -- The content's counts are the header's, and within the edition's maxima.
 module _ (file : List ℕ) (f : Filed file) where
   -- a part that ends within the file has the length that its ends give
@@ -287,21 +299,25 @@ module _ (file : List ℕ) (f : Filed file) where
   unfolding classCount content operationsStart controlsStart arcsStart fileEnd
   class-count = part-length 16 (operationsStart file) (omega arith) ∙ omega arith
 
+  pub operations-length : length (content file .operations) ≡ operationBytes (editionOf file) * operationsOf file
+  unfolding content operationsStart controlsStart arcsStart fileEnd
+  operations-length = part-length (operationsStart file) (controlsStart file) (omega arith) ∙ omega arith
+
   pub operation-count : operationCount (content file) ≡ operationsOf file
-  unfolding operationCount content operationsStart controlsStart arcsStart fileEnd operationBytes
-  operation-count =
-      ap (λ (k : ℕ). k / 3) (part-length (operationsStart file) (controlsStart file) (omega arith) ∙ omega arith)
-      ∙ mul-div-right (operationsOf file) {m = 3} (lit< tt)
+  unfolding operationCount content operationBytes
+  operation-count = ap (λ (k : ℕ). k / 3) operations-length ∙ mul-div-right (operationsOf file) {m = 3} (lit< tt)
 
   pub control-count : controlCount (content file) ≡ controlsOf file
   unfolding controlCount content operationsStart controlsStart arcsStart fileEnd
   control-count = part-length (controlsStart file) (arcsStart file) (omega arith) ∙ omega arith
 
+  pub arcs-length : length (content file .arcs) ≡ arcBytes * arcsOf file
+  unfolding content fileEnd
+  arcs-length = part-length (arcsStart file) (fileEnd file) (le-refl (fileEnd file)) ∙ omega arith
+
   pub arc-count : arcCount (content file) ≡ arcsOf file
-  unfolding arcCount content operationsStart controlsStart arcsStart fileEnd arcBytes
-  arc-count =
-      ap (λ (k : ℕ). k / 5) (part-length (arcsStart file) (fileEnd file) (le-refl (fileEnd file)) ∙ omega arith)
-      ∙ mul-div-right (arcsOf file) {m = 5} (lit< tt)
+  unfolding arcCount arcBytes
+  arc-count = ap (λ (k : ℕ). k / 5) arcs-length ∙ mul-div-right (arcsOf file) {m = 5} (lit< tt)
 
   pub within : Within (content file)
   unfolding content

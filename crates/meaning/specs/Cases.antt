@@ -1,10 +1,12 @@
--- Document 01's cases P1 to P11: what is given, and what has to come out.
+-- Document 01's cases P1 to P11, what the program prints, and what the writer writes: what is given, and what has to come out.
 use Prim.Native.Nat.{ℕ}
 use Prim.Native.String.{String}
 use mathlib.Core.List.{List, [], _∷_, _++_}
 use lib.ListN.{replicate, take}
 use Rattle.machine.specs.Refusals.{taken, refused}
+use Rattle.meaning.specs.Graph.{Graph, graphOf}
 use Rattle.meaning.specs.Answers.{Answer, scheduler, tableAfter, checker}
+use Rattle.meaning.specs.Writer.{Writing}
 
 -- the scheduler on a graph with so many slots, its answer and the table; or the checker on a graph and a table
 pub data Case : Type 0 where
@@ -92,4 +94,39 @@ prints =
     record { file = graphA 1; text = "cycles 2 rows 3 states 12\n1 0 0 1\n2 0 1 4\n2 1 1 2\n" }
     ∷ record { file = graphEmpty; text = "cycles 0 rows 0 states 1\n" }
     ∷ record { file = graphFollow; text = "refused 13 0\n" }
+    ∷ []
+
+-- the writer on a graph's content and an output of so many sevens: its answer, and the output afterwards
+pub record Write : Type 0 where
+  pub graph : Graph
+  pub room : ℕ
+  pub answer : Writing
+  pub output : List ℕ
+
+abbrev writes : Graph → ℕ → ℕ → List ℕ → Write
+writes g room length output =
+    record { graph = g; room = room; answer = record { verdict = taken; length = length }; output = output }
+
+abbrev refuses : Graph → ℕ → ℕ → ℕ → Write
+refuses g room k p =
+    record { graph = g; room = room; answer = record { verdict = refused k p; length = 0 }; output = replicate room 7 }
+
+-- case A as lists: its operations and controls given
+abbrev listsA : List ℕ → List ℕ → Graph
+listsA operations controls = graphOf 1 (1 ∷ 1 ∷ []) operations controls []
+
+abbrev operationsA : List ℕ
+operationsA = 0 ∷ 0 ∷ 0 ∷ 1 ∷ 1 ∷ 0 ∷ 1 ∷ 0 ∷ 1 ∷ []
+
+unfoldable pub writings : List Write
+writings =
+    writes (listsA operationsA (0 ∷ [])) 30 28 (graphA 1 ++ replicate 2 7)
+    ∷ writes (listsA operationsA (0 ∷ [])) 28 28 (graphA 1)
+    ∷ refuses (listsA operationsA (0 ∷ [])) 27 14 0
+    ∷ writes (graphOf 1 [] [] [] []) 16 16 graphEmpty
+    ∷ refuses (graphOf 2 [] (replicate 75 0) [] []) 0 2 0
+    ∷ refuses (graphOf 1 [] (replicate 76 0) [] []) 0 3 0
+    ∷ refuses (graphOf 1 [] (replicate 74 0) [] []) 0 5 0
+    ∷ refuses (graphOf 1 [] (replicate 72 0) [] []) 0 6 0
+    ∷ refuses (listsA operationsA (1 ∷ [])) 0 9 1
     ∷ []

@@ -25,6 +25,11 @@ module _ (edition : ℕ) where
   unfoldable pub mostArcs : ℕ
   mostArcs = 276
 
+  -- a count is above its maximum
+  abbrev pub tooMany : ℕ → ℕ → ℕ → ℕ → Bool
+  tooMany operations classes controls arcs =
+      ltb mostOperations operations || ltb mostClasses classes || ltb mostControls controls || ltb mostArcs arcs
+
   -- the bytes of an operation: class, path-true mask, path-false mask
   unfoldable pub operationBytes : ℕ
   operationBytes = 3
@@ -78,9 +83,7 @@ module _ (file : List ℕ) where
   fileLines =
       placeless 1 (ltb (length file) 16)
       ∷ placeless 2 (not (eqb (byteAt file 0) 0x48 && eqb (byteAt file 1) 0x53 && known editionOf))
-      ∷ placeless 3
-      (ltb (mostOperations editionOf) operationsOf || ltb (mostClasses editionOf) classesOf
-      || ltb (mostControls editionOf) controlsOf || ltb (mostArcs editionOf) arcsOf)
+      ∷ placeless 3 (tooMany editionOf operationsOf classesOf controlsOf arcsOf)
       ∷ placeless 4
       (not (eqb (numberAt file 8 2) 16 && eqb (numberAt file 10 2) operationsStart
       && eqb (numberAt file 12 2) controlsStart && eqb (numberAt file 14 2) arcsStart))

@@ -2,5 +2,6 @@ pub mod Graph
 pub mod Steps
 pub mod TableFile
 pub mod Answers
+pub mod Writer
 pub mod Cases
 pub mod Listing

@@ -3,10 +3,13 @@ use Prim.Native.Nat.{ℕ}
 use mathlib.Core.Path.{_≡_}
 use mathlib.Core.List.{List}
 use Rattle.machine.specs.Refusals.{Verdict, taken, refused}
+use Rattle.meaning.specs.Graph.{Graph}
 use Rattle.meaning.specs.Answers.{Answer, Reading, Part, scheduler, slotsAfter, tableAfter}
+use Rattle.meaning.specs.Writer.{Writing, writer, outputAfter}
 use Rattle.modeurwan.specs.declared.ModeurwanAnswer.{ModeurwanAnswer}
 use Rattle.modeurwan.specs.declared.ModeurwanPart.{ModeurwanPart}
 use Rattle.modeurwan.specs.declared.ModeurwanReading.{ModeurwanReading}
+use Rattle.modeurwan.specs.declared.ModeurwanWriting.{ModeurwanWriting}
 
 unfoldable pub numberOf : Verdict → ℕ
 numberOf taken = 0
@@ -45,3 +48,11 @@ pub record Schedules (file slots table : List ℕ) (r : ModeurwanAnswer) (slotsL
 
 unfoldable pub partNumbers : Part → ModeurwanPart
 partNumbers p = record { start = p .start; end = p .end }
+
+unfoldable pub writingNumbers : Writing → ModeurwanWriting
+writingNumbers w = record { number = numberOf (w .verdict); place = placeOf (w .verdict); length = w .length }
+
+-- what writing gives: the answer's numbers, and the output afterwards
+pub record Writes (g : Graph) (output : List ℕ) (r : ModeurwanWriting) (outputLast : List ℕ) : Type 0 where
+  pub answers : r ≡ writingNumbers (writer g output)
+  pub writes : outputLast ≡ outputAfter g output

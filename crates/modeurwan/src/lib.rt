@@ -2,9 +2,11 @@
 use checker::Checked;
 use reader::Read;
 use scheduler::Scheduled;
+use writer::Written;
 ghost use mathlib.Core.Path.{_≡_};
+ghost use Rattle.meaning.specs.Graph.{graphOf};
 ghost use Rattle.meaning.specs.Answers.{reader, checker, rowsOfCycle};
-ghost use Rattle.modeurwan.specs.Numbers.{readingNumbers, answerNumbers, Schedules, partNumbers};
+ghost use Rattle.modeurwan.specs.Numbers.{readingNumbers, answerNumbers, Schedules, partNumbers, Writes};
 
 // The number of a success, and a count or a place that there is not.
 const SUCCESS: usize = 0;
@@ -34,6 +36,13 @@ pub struct ModeurwanAnswer {
 pub struct ModeurwanPart {
     pub start: usize,
     pub end: usize,
+}
+
+#[repr(C)]
+pub struct ModeurwanWriting {
+    pub number: usize,
+    pub place: usize,
+    pub length: usize,
 }
 
 // Reads a graph file.
@@ -129,5 +138,31 @@ pub extern "C" fn modeurwan_rows_of(graph: &[u8], table: &[u8], cycle: u32) -> M
     ModeurwanPart {
         start: span.start,
         end: span.end,
+    }
+}
+
+// Writes the graph file of an edition and lists to the front of the output lent.
+#[no_mangle]
+pub extern "C" fn modeurwan_write(
+    edition: u8,
+    operations: &[u8],
+    limits: &[u8],
+    controls: &[u8],
+    arcs: &[u8],
+    output: &mut [u8],
+) -> ModeurwanWriting
+    ensures { λ r. ⌜ Writes (graphOf edition (now (limits .entry)) (now (operations .entry)) (now (controls .entry)) (now (arcs .entry))) (now (output .entry)) r (now (output .exit)) ⌝ }
+{
+    match writer::write(edition, operations, limits, controls, arcs, output) {
+        Written::Refused { number, place } => ModeurwanWriting {
+            number: number as usize,
+            place,
+            length: NONE,
+        },
+        Written::Done { length } => ModeurwanWriting {
+            number: SUCCESS,
+            place: NONE,
+            length,
+        },
     }
 }

@@ -1,13 +1,15 @@
 // The parts of a graph file, cut from any bytes; what an edition fixes; and the fields of operations, controls, arcs and rows.
-// No crate above knows an offset, a record size or an edition's numbers. A byte beyond the end of a part reads as 0.
+// No crate above knows a record size or an edition's numbers; only reader and writer know the header. A byte beyond the end of a
+// part reads as 0.
 use numbers::byte;
 use numbers::number;
 use numbers::pair;
 ghost use mathlib.Core.Path.{_≡_};
 ghost use Prim.Native.Nat.{suc, min, _+_, _*_, _<_, _≤_};
 ghost use lib.Seq.{slice};
-ghost use Rattle.meaning.specs.Graph.{byteAt, known, mostOperations, mostClasses, mostControls, mostArcs, operationBytes, operationsStart, controlsStart, arcsStart, fileEnd, content, operationCount, arcCount, limit, class, path, producer, source, target, kind, joins};
+ghost use Rattle.meaning.specs.Graph.{byteAt, known, mostOperations, mostClasses, mostControls, mostArcs, tooMany, operationBytes, operationsStart, controlsStart, arcsStart, fileEnd, content, operationCount, arcCount, limit, class, path, producer, source, target, kind, joins};
 ghost use Rattle.meaning.specs.TableFile.{maskBytes, rowBytes, rowStart, rowsOf, mostRows};
+ghost use Rattle.meaning.specs.Writer.{torn};
 ghost use Rattle.numbers.specs.Reads.{Reads};
 ghost use Rattle.parts.specs.Fields.{Counted, Stands, Lent, literalsOf, IsOperation, IsArc, IsRow, OfEdition, OfLimits, OfOperations, OfControls, OfArcs};
 
@@ -53,31 +55,47 @@ pub fn known(edition: u32) -> bool
 }
 
 // The most operations that an edition allows.
-pub fn most_operations(edition: u32) -> u32
+fn most_operations(edition: u32) -> u32
     ensures { λ r. ⌜ r ≡ mostOperations edition ⌝ }
 {
     24
 }
 
 // The most classes that an edition allows.
-pub fn most_classes(edition: u32) -> u32
+fn most_classes(edition: u32) -> u32
     ensures { λ r. ⌜ r ≡ mostClasses edition ⌝ }
 {
     8
 }
 
 // The most controls that an edition allows.
-pub fn most_controls(edition: u32) -> u32
+fn most_controls(edition: u32) -> u32
     ensures { λ r. ⌜ r ≡ mostControls edition ⌝ }
 {
     4
 }
 
 // The most arcs that an edition allows.
-pub fn most_arcs(edition: u32) -> u32
+fn most_arcs(edition: u32) -> u32
     ensures { λ r. ⌜ r ≡ mostArcs edition ⌝ }
 {
     276
+}
+
+// A count is above the maximum that the edition allows.
+pub fn too_many(
+    edition: u32,
+    operations: usize,
+    classes: usize,
+    controls: usize,
+    arcs: usize,
+) -> bool
+    ensures { λ r. ⌜ r ≡ tooMany edition operations classes controls arcs ⌝ }
+{
+    ((most_operations(edition) as usize) < operations)
+        | ((most_classes(edition) as usize) < classes)
+        | ((most_controls(edition) as usize) < controls)
+        | ((most_arcs(edition) as usize) < arcs)
 }
 
 // The bytes of an operation.
@@ -85,6 +103,13 @@ fn operation_bytes(edition: u32) -> usize
     ensures { λ r. ⌜ r ≡ operationBytes edition ⌝ }
 {
     3
+}
+
+// The operations or the arcs end inside a record.
+pub fn torn(edition: u32, operations: &[u8], arcs: &[u8]) -> bool
+    ensures { λ r. ⌜ r ≡ torn edition (now (operations .entry)) (now (arcs .entry)) ⌝ }
+{
+    !((operations.len() % operation_bytes(edition) == 0) & (arcs.len() % ARC_BYTES == 0))
 }
 
 // The bytes of a done mask or a step mask in a table's row.

@@ -20,11 +20,13 @@ fn unmarked(file: &[u8]) -> bool
 fn overfull(file: &[u8]) -> bool
     ensures { λ r. ⌜ r ≡ lineOf 3 (fileLines (now (file .entry))) .fault 0 ⌝ }
 {
-    let edition = parts::edition(file);
-    (parts::most_operations(edition) < byte(file, 3))
-        | (parts::most_classes(edition) < byte(file, 4))
-        | (parts::most_controls(edition) < byte(file, 5))
-        | (parts::most_arcs(edition) < pair(file, 6))
+    parts::too_many(
+        parts::edition(file),
+        byte(file, 3) as usize,
+        byte(file, 4) as usize,
+        byte(file, 5) as usize,
+        pair(file, 6) as usize,
+    )
 }
 
 // Refusal 4: an offset differs.

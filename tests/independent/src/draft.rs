@@ -1,6 +1,8 @@
 //! Graphs on the way to a file: the records as bytes, right or wrong, written
 //! with counts and offsets that fit them.
 
+use crate::oracle::Content;
+
 /// The record of an operation.
 #[derive(Clone, Copy, Debug)]
 pub struct Operation {
@@ -77,6 +79,10 @@ impl Operation {
             ..self
         }
     }
+
+    fn record(&self) -> [u8; 3] {
+        [self.class, self.path.when_true, self.path.when_false]
+    }
 }
 
 /// A plain arc that passes no join.
@@ -104,35 +110,53 @@ impl Arc {
             ..self
         }
     }
+
+    fn record(&self) -> [u8; 5] {
+        let Masks {
+            when_true,
+            when_false,
+        } = self.literals;
+        [self.source, self.target, self.kind, when_true, when_false]
+    }
 }
 
 impl Draft {
+    /// The lists that the writer takes.
+    pub fn content(&self) -> Content {
+        Content {
+            edition: 1,
+            operations: self.operations.iter().flat_map(Operation::record).collect(),
+            limits: self.limits.clone(),
+            controls: self.controls.clone(),
+            arcs: self.arcs.iter().flat_map(Arc::record).collect(),
+        }
+    }
+
     /// The graph file. Counts too large for their bytes are cut off.
     pub fn bytes(&self) -> Vec<u8> {
-        let operations_at = 16 + self.limits.len();
-        let controls_at = operations_at + 3 * self.operations.len();
-        let arcs_at = controls_at + self.controls.len();
-        let mut file = vec![0x48, 0x53, 1];
-        file.push(self.operations.len() as u8);
-        file.push(self.limits.len() as u8);
-        file.push(self.controls.len() as u8);
-        for number in [self.arcs.len(), 16, operations_at, controls_at, arcs_at] {
-            file.extend((number as u16).to_le_bytes());
-        }
-        file.extend(&self.limits);
-        for Operation { class, path } in &self.operations {
-            file.extend([*class, path.when_true, path.when_false]);
-        }
-        file.extend(&self.controls);
-        for arc in &self.arcs {
-            let Masks {
-                when_true,
-                when_false,
-            } = arc.literals;
-            file.extend([arc.source, arc.target, arc.kind, when_true, when_false]);
-        }
-        file
+        file_of(&self.content())
     }
+}
+
+/// The graph file of lists of whole records, whatever they hold. Counts too
+/// large for their bytes are cut off.
+pub fn file_of(content: &Content) -> Vec<u8> {
+    let operations_at = 16 + content.limits.len();
+    let controls_at = operations_at + content.operations.len();
+    let arcs_at = controls_at + content.controls.len();
+    let arcs = content.arcs.len() / 5;
+    let mut file = vec![0x48, 0x53, content.edition];
+    file.push((content.operations.len() / 3) as u8);
+    file.push(content.limits.len() as u8);
+    file.push(content.controls.len() as u8);
+    for number in [arcs, 16, operations_at, controls_at, arcs_at] {
+        file.extend((number as u16).to_le_bytes());
+    }
+    file.extend(&content.limits);
+    file.extend(&content.operations);
+    file.extend(&content.controls);
+    file.extend(&content.arcs);
+    file
 }
 
 /// Case A of document 01: a compare, and an addition on each side.
@@ -146,6 +170,29 @@ pub fn case_a() -> Draft {
         ],
         controls: vec![0],
         arcs: vec![],
+    }
+}
+
+/// A graph for the order of refusals: nested branches, a join, a follow arc.
+/// Its limits stand at 16, operations at 18, controls at 36, arcs at 38.
+pub fn nested() -> Draft {
+    Draft {
+        limits: vec![1, 1],
+        operations: vec![
+            operation(0),
+            operation(1).on(0, true),
+            operation(1).on(0, true).on(1, false),
+            operation(0).on(0, false),
+            operation(0),
+            operation(0),
+        ],
+        controls: vec![0, 1],
+        arcs: vec![
+            arc(1, 2),
+            arc(2, 4).through(0, true).through(1, false),
+            arc(3, 4).through(0, false),
+            follow(4, 5),
+        ],
     }
 }
 

@@ -1,6 +1,6 @@
 //! The proved library through its C interface, `include/modeurwan.h`.
 
-use crate::oracle::{Answer, Reading};
+use crate::oracle::{Answer, Content, Reading, Writing};
 use std::ops::Range;
 
 #[repr(C)]
@@ -26,6 +26,13 @@ struct ModeurwanReading {
     classes: usize,
     controls: usize,
     arcs: usize,
+}
+
+#[repr(C)]
+struct ModeurwanWriting {
+    number: usize,
+    place: usize,
+    length: usize,
 }
 
 extern "C" {
@@ -54,6 +61,20 @@ extern "C" {
         table_len: usize,
         cycle: u32,
     ) -> ModeurwanPart;
+
+    fn modeurwan_write(
+        edition: u8,
+        operations: *const u8,
+        operations_len: usize,
+        limits: *const u8,
+        limits_len: usize,
+        controls: *const u8,
+        controls_len: usize,
+        arcs: *const u8,
+        arcs_len: usize,
+        output: *mut u8,
+        room: usize,
+    ) -> ModeurwanWriting;
 }
 
 /// A number of an answer, all of which are far below 2 to the 32.
@@ -121,4 +142,29 @@ pub fn rows_of(graph: &[u8], table: &[u8], cycle: u32) -> Range<usize> {
         )
     };
     part.start..part.end
+}
+
+pub fn write(content: &Content, output: &mut [u8]) -> Writing {
+    // SAFETY: each pointer and length are those of one slice; the one that is
+    // written is borrowed for this call alone and overlaps nothing.
+    let writing = unsafe {
+        modeurwan_write(
+            content.edition,
+            content.operations.as_ptr(),
+            content.operations.len(),
+            content.limits.as_ptr(),
+            content.limits.len(),
+            content.controls.as_ptr(),
+            content.controls.len(),
+            content.arcs.as_ptr(),
+            content.arcs.len(),
+            output.as_mut_ptr(),
+            output.len(),
+        )
+    };
+    Writing {
+        number: small(writing.number),
+        place: small(writing.place),
+        length: small(writing.length),
+    }
 }

@@ -1,5 +1,5 @@
-//! An independent second implementation of the cycle schedules of document 01,
-//! made to be compared with the proved one.
+//! An independent second implementation of the cycle schedules of document 01
+//! and the writer of document 02, made to be compared with the proved one.
 
 pub mod draft;
 #[cfg(all(feature = "proved", target_arch = "x86_64"))]
@@ -8,13 +8,14 @@ pub mod ffi;
 #[path = "peer.rs"]
 pub mod ffi;
 pub mod generate;
+pub mod lent;
 pub mod listing;
 pub mod oracle;
 
-use oracle::{Answer, Reading};
+use oracle::{Answer, Content, Reading, Writing};
 use std::ops::Range;
 
-/// The four public functions of one implementation, so that a test can put
+/// The five public functions of one implementation, so that a test can put
 /// the same question to each.
 pub struct Implementation {
     pub name: &'static str,
@@ -22,6 +23,7 @@ pub struct Implementation {
     pub schedule: fn(&[u8], &mut [u64], &mut [u8]) -> Answer,
     pub check: fn(&[u8], &[u8]) -> Answer,
     pub rows_of: fn(&[u8], &[u8], u32) -> Range<usize>,
+    pub write: fn(&Content, &mut [u8]) -> Writing,
 }
 
 const ORACLE: Implementation = Implementation {
@@ -30,6 +32,7 @@ const ORACLE: Implementation = Implementation {
     schedule: oracle::schedule,
     check: oracle::check,
     rows_of: oracle::rows_of,
+    write: oracle::write,
 };
 
 #[cfg(feature = "proved")]
@@ -39,6 +42,7 @@ const PROVED: Implementation = Implementation {
     schedule: ffi::schedule,
     check: ffi::check,
     rows_of: ffi::rows_of,
+    write: ffi::write,
 };
 
 /// Every implementation that this build can run.

@@ -1,5 +1,5 @@
 //! Document 01 a second time: reader, scheduler, checker and the query for the
-//! rows of one cycle.
+//! rows of one cycle; and the writer of document 02's Req 01.
 //!
 //! The method is another one than that of the proved code. Literals are lists
 //! of (control, side), outcomes are optional truth values; the reachable states
@@ -13,6 +13,7 @@ mod reader;
 mod scheduler;
 mod steps;
 mod table;
+mod writer;
 
 pub use checker::is_legal;
 pub use graph::{Arc, Graph, Literal, Operation, State};
@@ -20,6 +21,7 @@ pub use reader::read_graph;
 pub use scheduler::{explore, plan, Outcome, Schedule, Space};
 pub use steps::{legal_steps, Steps};
 pub use table::{Row, Table, MOST_ROWS};
+pub use writer::{write_graph, Content};
 
 use std::ops::Range;
 
@@ -87,6 +89,33 @@ pub fn read(graph: &[u8]) -> Reading {
             number,
             place,
             ..Reading::default()
+        },
+    }
+}
+
+/// What the writer answers; number 0 is success, with the length of the file.
+#[derive(Clone, Copy, Debug, Default, PartialEq, Eq)]
+pub struct Writing {
+    pub number: u32,
+    pub place: u32,
+    pub length: u32,
+}
+
+/// Writes the graph file of a content to the front of the output, which only
+/// success changes.
+pub fn write(content: &Content, output: &mut [u8]) -> Writing {
+    match write_graph(content, output.len()) {
+        Ok(file) => {
+            output[..file.len()].copy_from_slice(&file);
+            Writing {
+                length: file.len() as u32,
+                ..Writing::default()
+            }
+        }
+        Err(Refusal { number, place }) => Writing {
+            number,
+            place,
+            ..Writing::default()
         },
     }
 }

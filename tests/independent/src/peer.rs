@@ -2,7 +2,7 @@
 //! another processor `tests/c/peer.c` serves it under an emulator. The variable
 //! `MODEURWAN_PEER` holds the command. One peer runs for each thread.
 
-use crate::oracle::{Answer, Reading};
+use crate::oracle::{Answer, Content, Reading, Writing};
 use std::cell::RefCell;
 use std::io::{Read, Write};
 use std::ops::Range;
@@ -23,18 +23,18 @@ fn start() -> Child {
         .expect("the peer starts")
 }
 
-/// Sends a request: the function, three numbers, the buffers. Gives as many
+/// Sends a request: the function, its numbers, the buffers. Gives as many
 /// numbers as the function's result has, and fills the buffers to be written.
 fn call<const N: usize>(
     function: u8,
-    numbers: [usize; 3],
+    numbers: &[usize],
     sent: &[&[u8]],
     written: &mut [&mut [u8]],
 ) -> [u32; N] {
     PEER.with(|peer| {
         let mut peer = peer.borrow_mut();
         let mut request = vec![function];
-        for number in numbers {
+        for &number in numbers {
             request.extend((number as u64).to_le_bytes());
         }
         for bytes in sent {
@@ -68,7 +68,7 @@ fn answer([number, place, cycles, rows, states]: [u32; 5]) -> Answer {
 
 pub fn read(graph: &[u8]) -> Reading {
     let [number, place, operations, classes, controls, arcs] =
-        call(b'r', [graph.len(), 0, 0], &[graph], &mut []);
+        call(b'r', &[graph.len()], &[graph], &mut []);
     Reading {
         number,
         place,
@@ -84,7 +84,7 @@ pub fn schedule(graph: &[u8], slots: &mut [u64], table: &mut [u8]) -> Answer {
     let (sent, room) = (bytes.clone(), table.to_vec());
     let result = call(
         b's',
-        [graph.len(), slots.len(), room.len()],
+        &[graph.len(), slots.len(), room.len()],
         &[graph, &sent, &room],
         &mut [&mut bytes, table],
     );
@@ -97,7 +97,7 @@ pub fn schedule(graph: &[u8], slots: &mut [u64], table: &mut [u8]) -> Answer {
 pub fn check(graph: &[u8], table: &[u8]) -> Answer {
     answer(call(
         b'c',
-        [graph.len(), table.len(), 0],
+        &[graph.len(), table.len()],
         &[graph, table],
         &mut [],
     ))
@@ -106,9 +106,29 @@ pub fn check(graph: &[u8], table: &[u8]) -> Answer {
 pub fn rows_of(graph: &[u8], table: &[u8], cycle: u32) -> Range<usize> {
     let [start, end]: [u32; 2] = call(
         b'q',
-        [graph.len(), table.len(), cycle as usize],
+        &[graph.len(), table.len(), cycle as usize],
         &[graph, table],
         &mut [],
     );
     start as usize..end as usize
+}
+
+pub fn write(content: &Content, output: &mut [u8]) -> Writing {
+    let Content {
+        edition,
+        operations,
+        limits,
+        controls,
+        arcs,
+    } = content;
+    let room = output.to_vec();
+    let sent: [&[u8]; 5] = [operations, limits, controls, arcs, &room];
+    let mut numbers = vec![usize::from(*edition)];
+    numbers.extend(sent.map(<[u8]>::len));
+    let [number, place, length] = call(b'w', &numbers, &sent, &mut [output]);
+    Writing {
+        number,
+        place,
+        length,
+    }
 }

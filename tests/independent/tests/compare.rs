@@ -7,26 +7,17 @@
 //! other seeds than the usual ones.
 
 use independent::draft::{arc, case_a, follow, largest, operation, Draft};
-use independent::generate::{self, Random};
+use independent::generate::{self, neighbours, seeds, Random};
+use independent::lent::Lent;
 use independent::oracle::{read_graph, Outcome, Table, MOST_ROWS};
 use independent::{ffi, oracle};
 use std::fmt;
-use std::ops::Range;
 
 /// Graphs with more reachable states than this only meet refusal 12.
 const MOST_STATES: usize = 4096;
 
 /// Room for the largest table.
 const MOST_ROOM: usize = 8 + 8 * MOST_ROWS;
-
-fn seeds(usual: u64) -> Range<u64> {
-    let chosen = |name: &str| {
-        let text = std::env::var(name).ok()?;
-        Some(text.parse::<u64>().expect("a number of seeds"))
-    };
-    let first = chosen("COMPARE_FIRST_SEED").unwrap_or(0);
-    first..first + chosen("COMPARE_SEEDS").unwrap_or(usual)
-}
 
 /// What a failure needs to be seen again.
 struct Case<'a> {
@@ -45,30 +36,6 @@ impl fmt::Display for Case<'_> {
         self.table
             .iter()
             .try_for_each(|byte| write!(out, " {byte:02X}"))
-    }
-}
-
-/// A buffer lent from the middle of a longer one, so that a write outside of
-/// it shows too.
-#[derive(Clone, PartialEq)]
-struct Lent<T> {
-    all: Vec<T>,
-    lent: Range<usize>,
-}
-
-impl<T> Lent<T> {
-    const MARGIN: usize = 5;
-
-    fn noisy(size: usize, noise: impl FnMut() -> T) -> Self {
-        let all = std::iter::repeat_with(noise).take(size + 2 * Self::MARGIN);
-        Lent {
-            all: all.collect(),
-            lent: Self::MARGIN..Self::MARGIN + size,
-        }
-    }
-
-    fn lend(&mut self) -> &mut [T] {
-        &mut self.all[self.lent.clone()]
     }
 }
 
@@ -214,20 +181,6 @@ fn nested_branches() -> Draft {
             arc(3, 4).through(0, false),
         ],
     }
-}
-
-/// Every file that differs in one byte, is cut off or is one byte longer.
-fn neighbours(file: &[u8]) -> Vec<Vec<u8>> {
-    let mut neighbours: Vec<Vec<u8>> = (0..file.len()).map(|end| file[..end].to_vec()).collect();
-    neighbours.push([file, &[0]].concat());
-    for at in 0..file.len() {
-        for byte in 0..=255 {
-            let mut neighbour = file.to_vec();
-            neighbour[at] = byte;
-            neighbours.push(neighbour);
-        }
-    }
-    neighbours
 }
 
 #[test]

@@ -1,10 +1,11 @@
 //! The oracle and the generators against themselves, and against the plainest
 //! reading of document 01's definitions on graphs of a few operations.
 
-use independent::draft::{arc, follow, operation, Draft, Masks};
+use independent::draft::{nested, Draft, Masks};
 use independent::generate::{self, Random};
 use independent::oracle::{
-    self, is_legal, legal_steps, read_graph, Answer, Graph, Outcome, Row, Schedule, State, Table,
+    self, is_legal, legal_steps, read_graph, write_graph, Answer, Graph, Outcome, Row, Schedule,
+    State, Table, Writing,
 };
 use std::collections::{BTreeMap, BTreeSet};
 
@@ -406,29 +407,6 @@ fn states_with_stray_bits_are_refused() {
     }
 }
 
-/// A graph for the order of refusals: nested branches, a join, a follow arc.
-/// Its limits stand at 16, operations at 18, controls at 36, arcs at 38.
-fn nested() -> Draft {
-    Draft {
-        limits: vec![1, 1],
-        operations: vec![
-            operation(0),
-            operation(1).on(0, true),
-            operation(1).on(0, true).on(1, false),
-            operation(0).on(0, false),
-            operation(0),
-            operation(0),
-        ],
-        controls: vec![0, 1],
-        arcs: vec![
-            arc(1, 2),
-            arc(2, 4).through(0, true).through(1, false),
-            arc(3, 4).through(0, false),
-            follow(4, 5),
-        ],
-    }
-}
-
 /// A byte of `nested`, what to write there, and the refusal that it brings.
 const FAULTS: [(usize, u8, (u32, u32)); 33] = [
     (0, 0x49, (2, 0)),
@@ -495,6 +473,47 @@ fn the_lowest_number_then_place_is_given() {
     }
     assert_eq!(oracle::read(&valid[..15]).number, 1);
     assert_eq!(oracle::read(&valid[..16]).number, 5);
+}
+
+/// The writer makes the file that the drafts make by another method, or gives
+/// the refusal that the reader gives for it.
+#[test]
+fn the_writer_and_the_drafts_make_one_file() {
+    for seed in 0..20_000 {
+        let mut random = Random::new(seed);
+        let draft = if random.chance(50) {
+            generate::graph(&mut random)
+        } else {
+            generate::loose_graph(&mut random)
+        };
+        let file = draft.bytes();
+        let expected = read_graph(&file).map(|_| file.clone());
+        let written = write_graph(&draft.content(), file.len());
+        assert_eq!(written, expected, "seed {seed}");
+    }
+}
+
+#[test]
+fn an_output_ends_as_promised() {
+    let (content, file) = (nested().content(), nested().bytes());
+    let no_room = Writing {
+        number: 14,
+        ..Writing::default()
+    };
+    let written = Writing {
+        length: file.len() as u32,
+        ..Writing::default()
+    };
+    for room in 0..file.len() {
+        let mut output = vec![7; room];
+        assert_eq!(oracle::write(&content, &mut output), no_room);
+        assert_eq!(output, vec![7; room]);
+    }
+    for more in 0..5 {
+        let mut output = vec![7; file.len() + more];
+        assert_eq!(oracle::write(&content, &mut output), written);
+        assert_eq!(output, [file.clone(), vec![7; more]].concat());
+    }
 }
 
 /// The generators reach every refusal, and most files have a schedule or are

@@ -1,15 +1,21 @@
-//! The cases of document 01 and the published examples, put to every
-//! implementation of the build.
+//! The cases of document 01, those of the writer of document 02's Req 01 and the
+//! published examples, put to every implementation of the build.
 //!
 //! Operations are named by their numbers in the graph file. The figures of
 //! document 000 count operations from 1; there operation j is number j - 1.
 
 use independent::draft::{arc, case_a, follow, largest, operation, Draft};
 use independent::listing::text;
-use independent::oracle::{Answer, Row, Table, MOST_ROWS};
+use independent::oracle::{Answer, Content, Row, Table, Writing, MOST_ROWS};
 use independent::Implementation;
 
 const SLOTS: usize = 4096;
+
+/// The file of case A as document 01 prints it.
+const CASE_A: [u8; 28] = [
+    0x48, 0x53, 0x01, 0x03, 0x02, 0x01, 0x00, 0x00, 0x10, 0x00, 0x12, 0x00, 0x1B, 0x00, 0x1C, 0x00,
+    0x01, 0x01, 0x00, 0x00, 0x00, 0x01, 0x01, 0x00, 0x01, 0x00, 0x01, 0x00,
+];
 
 /// Each implementation, with a line that names it in the report of a failure.
 fn implementations() -> impl Iterator<Item = Implementation> {
@@ -136,13 +142,9 @@ fn unlimited(draft: Draft) -> Draft {
 
 #[test]
 fn case_a_has_the_bytes_of_the_document() {
-    let bytes = [
-        0x48, 0x53, 0x01, 0x03, 0x02, 0x01, 0x00, 0x00, 0x10, 0x00, 0x12, 0x00, 0x1B, 0x00, 0x1C,
-        0x00, 0x01, 0x01, 0x00, 0x00, 0x00, 0x01, 0x01, 0x00, 0x01, 0x00, 0x01, 0x00,
-    ];
-    assert_eq!(case_a().bytes(), bytes);
+    assert_eq!(case_a().bytes(), CASE_A);
     for each in implementations() {
-        let reading = (each.read)(&bytes);
+        let reading = (each.read)(&CASE_A);
         assert_eq!(reading.number, 0);
         let counts = [
             reading.operations,
@@ -151,6 +153,78 @@ fn case_a_has_the_bytes_of_the_document() {
             reading.arcs,
         ];
         assert_eq!(counts, [3, 2, 1, 0]);
+    }
+}
+
+#[test]
+fn case_a_is_written_from_its_lists() {
+    let content = Content {
+        edition: 1,
+        operations: vec![0, 0, 0, 1, 1, 0, 1, 0, 1],
+        limits: vec![1, 1],
+        controls: vec![0],
+        arcs: vec![],
+    };
+    for each in implementations() {
+        let mut output = [7; 30];
+        let written = Writing {
+            length: 28,
+            ..Writing::default()
+        };
+        assert_eq!((each.write)(&content, &mut output), written);
+        assert_eq!(output[..28], CASE_A);
+        assert_eq!(output[28..], [7; 2]);
+    }
+}
+
+/// The writer's refusal of a content, for which there is room enough.
+fn refusal(each: &Implementation, content: &Content) -> (u32, u32) {
+    let writing = (each.write)(content, &mut [0; 1480]);
+    (writing.number, writing.place)
+}
+
+/// Counts are of whole records, over all lists before any piece.
+#[test]
+fn as_many_records_as_there_may_be_and_a_piece() {
+    let cases = [
+        (73, 0, 5),
+        (74, 0, 5),
+        (75, 0, 3),
+        (76, 0, 3),
+        (77, 0, 3),
+        (0, 1381, 5),
+        (0, 1384, 5),
+        (0, 1385, 3),
+        (0, 1386, 3),
+        (1, 1385, 3),
+        (75, 4, 3),
+        (1, 4, 5),
+    ];
+    for each in implementations() {
+        for (operations, arcs, number) in cases {
+            let content = Content {
+                operations: vec![0; operations],
+                arcs: vec![0; arcs],
+                ..case_a().content()
+            };
+            let lengths = format!("{operations} and {arcs} bytes");
+            assert_eq!(refusal(&each, &content), (number, 0), "{lengths}");
+        }
+    }
+}
+
+#[test]
+fn the_writer_refuses_content_that_the_reader_would() {
+    let mut without_literal = case_j();
+    without_literal.arcs[1] = arc(2, 3);
+    let mut class_and_path_bad = case_a();
+    class_and_path_bad.operations[0] = class_and_path_bad.operations[0].on(3, true);
+    class_and_path_bad.operations[2].class = 2;
+    for each in implementations() {
+        assert_eq!(refusal(&each, &without_literal.content()), (11, 1));
+        assert_eq!(refusal(&each, &class_and_path_bad.content()), (6, 2));
+        assert_eq!(refusal(&each, &chain(24).content()), (0, 0));
+        assert_eq!(refusal(&each, &chain(25).content()), (3, 0));
     }
 }
 

@@ -88,7 +88,7 @@ pub fn damaged_file(random: &mut Random) -> Vec<u8> {
 }
 
 /// A fault that leaves counts and offsets right.
-fn disturb_records(random: &mut Random, draft: &mut Draft) {
+pub fn disturb_records(random: &mut Random, draft: &mut Draft) {
     match random.below(6) {
         0 => disturb_list(random, &mut draft.limits),
         1 => disturb_list(random, &mut draft.operations),
@@ -136,4 +136,18 @@ pub fn disturb_bytes(random: &mut Random, file: &mut Vec<u8>) {
         4 => file.truncate(at),
         _ => file.extend((0..random.between(1, 9)).map(|_| random.byte())),
     }
+}
+
+/// Every file that differs in one byte, is cut off or is one byte longer.
+pub fn neighbours(file: &[u8]) -> Vec<Vec<u8>> {
+    let mut neighbours: Vec<Vec<u8>> = (0..file.len()).map(|end| file[..end].to_vec()).collect();
+    neighbours.push([file, &[0]].concat());
+    for at in 0..file.len() {
+        for byte in 0..=255 {
+            let mut neighbour = file.to_vec();
+            neighbour[at] = byte;
+            neighbours.push(neighbour);
+        }
+    }
+    neighbours
 }
