@@ -149,6 +149,19 @@ pub refused-past : (k p : ℕ) (ls ms : List Line) → T (not (numbered k ls))
 refused-past k p ls ms t =
     Iff·trans (judge-refused (ls ++ ms) k p) (Iff·trans (given-past k p ls ms t) (Iff·and (Iff·symm (judge-taken ls)) Iff·rfl))
 
+-- One that no line of the second has is given exactly when the first gives it.
+pub refused-before : (k p : ℕ) (ls ms : List Line) → T (not (numbered k ms)) → (judge (ls ++ ms) ≡ refused k p) ↔ (judge ls ≡ refused k p)
+refused-before k p ls ms t = Iff·trans (judge-refused (ls ++ ms) k p) (Iff·trans (to ls, from) (Iff·symm (judge-refused ls k p)))
+  where
+    to : (ls : List Line) → Given k p (ls ++ ms) → Given k p ls
+    to [] g = absurd (contrary (numbered k ms) (given-numbered g) t)
+    to (l ∷ ls) (here e h) = here e h
+    to (l ∷ ls) (later h r) = later h (to ls r)
+
+    from : {ls : List Line} → Given k p ls → Given k p (ls ++ ms)
+    from (here e h) = here e h
+    from (later h r) = later h (from r)
+
 -- A line whose place is not named, in words: it passes, it passes and a later one gives the number, or it gives it.
 module _ (j : ℕ) {b : Bool} {P : Type 0} (ls : List Line) where
   pub placeless-pass : Denies b P → AllPass (placeless j b ∷ ls) ↔ (P × AllPass ls)

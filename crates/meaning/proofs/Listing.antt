@@ -6,7 +6,7 @@ use native.Mathlib.Omega.{arith}
 use mathlib.Core.Path.{_≡_, refl, sym, _∙_, ap, ap₂}
 use mathlib.Core.Logic.{⊎-elim}
 use mathlib.Core.Bool.{Bool, true, false, cond}
-use mathlib.Core.List.{List, [], _∷_, _++_, flatMap, append-assoc}
+use mathlib.Core.List.{List, [], _∷_, _++_, flatMap}
 use lib.ListN.{length, getD, drop, length-append}
 use lib.Dec.{ltb}
 use borrow.Author.Tests.{le-ltb, lt-ltb}
@@ -17,8 +17,8 @@ use Rattle.machine.specs.Tables.{Row, scheduleRows}
 use Rattle.machine.proofs.Sets.{le-or-lt, list-same, list-places}
 use Rattle.meaning.specs.Graph.{Graph, content}
 use Rattle.meaning.specs.Steps.{machineOf}
-use Rattle.meaning.specs.TableFile.{mostRows, rowStart, rowsOf, tableIn, tableFile, scheduleFile}
-use Rattle.meaning.specs.Answers.{Answer, answer, isTaken, graphLines, scheduleLines, scheduleVerdict, scheduler, tableAfter, graphVerdict}
+use Rattle.meaning.specs.TableFile.{mostRows, rowStart, tableIn, tableFile, scheduleFile}
+use Rattle.meaning.specs.Answers.{answer, isTaken, graphLines, scheduleLines, scheduleVerdict, scheduler, tableAfter, graphVerdict}
 use Rattle.meaning.specs.Listing.{ascii, digits, decimal, field, firstLine, rowLine, rowLines, listing, printed}
 use Rattle.meaning.proofs.Taken.{accepted-of}
 use Rattle.meaning.proofs.TableFile.{AllFit, file-rows, file-row}

@@ -285,6 +285,10 @@ module _ {g : Graph} (w : Within g) where
   unfolding mostControls
   few-controls = w .controls
 
+  -- each of these is a byte
+  pub counts-small : (operationCount g < 256) × (classCount g < 256) × (controlCount g < 256)
+  counts-small = (omega (arith, few-operations), omega (arith, few-classes), omega (arith, few-controls))
+
   pub few-arcs : arcCount g ≤ 276
   unfolding mostArcs
   few-arcs = w .arcs

@@ -4,21 +4,21 @@ use Prim.Native.Nat.{ℕ, suc, _+_, _*_, _/_, _%_, _≤_, _<_}
 use native.Mathlib.Nat.{mod-add-div}
 use native.Mathlib.Omega.{arith}
 use mathlib.Core.Path.{_≡_, refl, sym, _∙_, ap}
-use mathlib.Core.Logic.{_↔_, Iff·rfl, Iff·symm, Iff·trans, Iff·and}
-use mathlib.Core.Bool.{Bool, true, false, cond, not}
+use mathlib.Core.Logic.{_↔_, Iff·symm, Iff·trans, Iff·and}
+use mathlib.Core.Bool.{Bool, false, cond, not}
 use mathlib.Core.List.{List, [], _∷_, _++_, append-assoc, append-nil}
 use lib.ListN.{length, take, drop, length-append}
 use lib.Seq.{slice, slice-cons, take-length}
 use lib.Dec.{T, eqb, ltb, eqb→eq, lit<}
-use Rattle.machine.specs.Refusals.{placeless, Verdict, taken, refused, judge}
+use Rattle.machine.specs.Refusals.{placeless, taken, refused, judge}
 use Rattle.machine.proofs.Says.{Says, Denies, says-eqb, says-test, says-and, says-ltb, denies-test, denies-not, denies-or, denies-eqb, denies-ltb}
-use Rattle.machine.proofs.Refusals.{AllPass, none, and, passes-judge, judge-taken, judge-refused, judge-append, judge-after, numbered, taken-past, refused-past, otherwise, placeless-pass, placeless-here, placeless-first}
+use Rattle.machine.proofs.Refusals.{AllPass, none, and, passes-judge, judge-taken, judge-refused, judge-append, judge-after, numbered, taken-past, refused-past, refused-before, otherwise, placeless-pass, placeless-here, placeless-first}
 use Rattle.meaning.specs.Graph.{Graph, known, tooMany, operationBytes, arcBytes, byteAt, littleEndian, numberAt, editionOf, operationsOf, classesOf, controlsOf, arcsOf, operationsStart, controlsStart, arcsStart, fileEnd, content, operationCount, classCount, controlCount, arcCount, contentLines}
 use Rattle.meaning.specs.TableFile.{bytesOf}
 use Rattle.meaning.specs.Answers.{isTaken, graphVerdict, graphLines, reading, reader}
 use Rattle.meaning.specs.Writer.{torn, graphHeader, graphFile, listLines, writeLines, writeVerdict, writing, writer, outputAfter}
 use Rattle.meaning.proofs.Bytes.{AreBytes, more, append-small, bytes-small, bytes-number, bytes-at, slice-at, parts-meet}
-use Rattle.meaning.proofs.Taken.{Taken, taken-of, of-taken, denies-many, largest, Filed, of-filed, Within, few-operations, few-classes, few-controls, few-arcs, class-count, operations-length, operation-count, control-count, arcs-length, arc-count, within, graph-taken-exactly}
+use Rattle.meaning.proofs.Taken.{Taken, taken-of, of-taken, denies-many, largest, Filed, of-filed, Within, counts-small, few-arcs, class-count, operations-length, operation-count, control-count, arcs-length, arc-count, within, graph-taken-exactly}
 
 -- Refusals 2, 3 and 5, in order.
 pub record Listed (g : Graph) : Type 0 where
@@ -191,10 +191,8 @@ module _ {g : Graph} (l : Listed g) where
       counts : AreBytes (0x48 ∷ 0x53 ∷ g .edition ∷ operationCount g ∷ classCount g ∷ controlCount g ∷ bytesOf 2 (arcCount g))
       counts =
           let edition = known-byte (g .edition) (l .edition-known) in
-          let n : operationCount g < 256 = omega (arith, few-operations (l .within)) in
-          let k : classCount g < 256 = omega (arith, few-classes (l .within)) in
-          let c : controlCount g < 256 = omega (arith, few-controls (l .within)) in
-          more (lit< tt) (more (lit< tt) (more edition (more n (more k (more c (bytes-small 2 (arcCount g)))))))
+          let small = counts-small (l .within) in
+          more (lit< tt) (more (lit< tt) (more edition (more (small .0) (more (small .1) (more (small .2) (bytes-small 2 (arcCount g)))))))
 
       header : AreBytes (graphHeader g)
       header =
@@ -297,14 +295,6 @@ module _ {file : List ℕ} (f : Filed file) where
 pub one-file : {file other : List ℕ} → Filed file → AreBytes file → Filed other → AreBytes other → content file ≡ content other → file ≡ other
 one-file f bytes h others e = sym (content-file f bytes) ∙ ap graphFile e ∙ content-file h others
 
--- a number up to 11 is given by a line before 14
-refused-early : (k p : ℕ) → k ≤ 11 → (short : Bool) (v : Verdict)
-    → (otherwise v (cond short (refused 14 0) taken) ≡ refused k p) ↔ (v ≡ refused k p)
-unfolding otherwise
-refused-early k p h short (refused j q) = Iff·rfl
-refused-early k p h false taken = Iff·rfl
-refused-early k p h true taken = (λ e. let z : 14 ≡ k = cc in absurd (omega arith), λ e. cc)
-
 -- The writer's verdict, refusal by refusal.
 module _ (g : Graph) (output : List ℕ) where
   -- what 14 asks
@@ -357,12 +347,17 @@ module _ (g : Graph) (output : List ℕ) where
         denies-or (denies-eqb 2 k) (denies-or (denies-eqb 3 k) (denies-or (denies-eqb 5 k) (denies-test false))) .from
         (λ e. omega arith, (λ e. omega arith, (λ e. omega arith, tt)))
 
+    -- nor 14
+    before-room : T (not (numbered k (placeless 14 short ∷ [])))
+    unfolding numbered
+    before-room = denies-or (denies-eqb 14 k) (denies-test false) .from (λ e. omega arith, tt)
+
     content-refused : (writeVerdict g output ≡ refused k p) ↔ (Listed g × (judge (contentLines g) ≡ refused k p))
+    unfolding writeVerdict writeLines
     content-refused =
-        rw written-verdict
-        (Iff·trans (refused-early k p high short (judge (listLines g ++ contentLines g)))
+        Iff·trans (refused-before k p (listLines g ++ contentLines g) (placeless 14 short ∷ []) before-room)
         (Iff·trans (refused-past k p (listLines g) (contentLines g) past-lists)
-        (Iff·and (listed-exactly g) (Iff·symm (judge-refused (contentLines g) k p)))))
+        (Iff·and (listed-exactly g) (Iff·symm (judge-refused (contentLines g) k p))))
 
     -- The writer refuses content by 6 to 11 exactly as the reader refuses the file of that content.
     pub refused-alike : (writeVerdict g output ≡ refused k p) ↔ (Listed g × (graphVerdict (graphFile g) ≡ refused k p))

@@ -15,7 +15,7 @@ unfoldable pub torn : ℕ → List ℕ → List ℕ → Bool
 torn edition operations arcs = not (eqb (length operations % operationBytes edition) 0 && eqb (length arcs % arcBytes) 0)
 
 module _ (g : Graph) where
-  -- the header: mark, edition, counts, and where each part stands; sixteen bytes, where 2, 3 and 5 pass
+  -- the header, of sixteen bytes: mark, edition, counts, and where each part stands
   unfoldable pub graphHeader : List ℕ
   graphHeader =
       let operationsAt = 16 + length (g .limits) in

@@ -1,16 +1,16 @@
 -- Demand 2 for the code: the states that a fork leads to, on the words that say nothing but how the controls begun fall, are
 -- 2^m for a legal step with m controls among its members. Assumes nothing.
-use Prim.Native.Nat.{ℕ, _^_, _≤_, _<_}
+use Prim.Native.Nat.{ℕ, _^_, _<_}
 use native.Mathlib.Nat.{lt-of-lt-of-le, lt-of-le-of-lt}
 use native.Mathlib.Omega.{arith}
-use mathlib.Core.Path.{_≡_, sym, _∙_, ap, subst}
+use mathlib.Core.Path.{_≡_, sym, _∙_, subst}
 use lib.Bits.{bitAnd, and-le-l, and-le-r}
 use lib.Dec.{T}
 use lib.Pow.{pow-mono}
 use Rattle.machine.specs.Sets.{has, countBelow}
 use Rattle.machine.proofs.Reach.{CountOf, count-same}
 use Rattle.meaning.specs.Graph.{Graph, controlCount, producer}
-use Rattle.meaning.specs.Steps.{State, legal, after, machineOf}
+use Rattle.meaning.specs.Steps.{State, legal, machineOf}
 use Rattle.meaning.proofs.Taken.{Accepted, few-controls}
 use Rattle.meaning.proofs.Outcomes.{NextState, legal-outcomes-counted}
 use Rattle.steps.specs.Forks.{begun, forkOf, falls, fallen}

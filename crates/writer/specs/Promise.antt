@@ -1,11 +1,10 @@
 -- What the writer promises, and the parts of its work.
-use Prim.Native.Nat.{ℕ, _+_, _%_}
+use Prim.Native.Nat.{ℕ, _+_}
 use mathlib.Core.Path.{_≡_}
-use mathlib.Core.List.{List, _∷_, _++_}
+use mathlib.Core.List.{List}
 use lib.ListN.{length}
 use Rattle.machine.specs.Refusals.{taken, refused}
 use Rattle.meaning.specs.Graph.{Graph}
-use Rattle.meaning.specs.TableFile.{bytesOf}
 use Rattle.meaning.specs.Writer.{Writing, writer, outputAfter}
 use Rattle.writer.specs.declared.Starts.{Starts}
 use Rattle.writer.specs.declared.Written.{Written}
@@ -27,9 +26,3 @@ pub record StartsOf (limits operations controls arcs : List ℕ) (r : Starts) : 
   pub controls-at : r .controls ≡ 16 + length limits + length operations
   pub arcs-at : r .arcs ≡ 16 + length limits + length operations + length controls
   pub ends : r .end ≡ 16 + length limits + length operations + length controls + length arcs
-
--- the bytes of a header with these counts and places; the counts of operations, classes and controls have one byte each
-unfoldable pub headerOf : ℕ → ℕ → ℕ → ℕ → ℕ → Starts → List ℕ
-headerOf edition operations classes controls arcs starts =
-    0x48 ∷ 0x53 ∷ edition ∷ operations % 256 ∷ classes % 256 ∷ controls % 256 ∷ bytesOf 2 arcs
-    ++ bytesOf 2 16 ++ bytesOf 2 (starts .operations) ++ bytesOf 2 (starts .controls) ++ bytesOf 2 (starts .arcs)

@@ -10,11 +10,11 @@ ghost use Rattle.machine.specs.Refusals.{taken, refused, judge};
 ghost use Rattle.machine.proofs.Refusals.{otherwise};
 ghost use Rattle.meaning.specs.Graph.{graphOf};
 ghost use Rattle.meaning.specs.Answers.{isTaken};
-ghost use Rattle.meaning.specs.Writer.{graphFile, listLines, writing};
+ghost use Rattle.meaning.specs.Writer.{graphHeader, graphFile, listLines, writing};
 ghost use Rattle.meaning.proofs.Writer.{Listed};
 ghost use Rattle.reader.specs.Reading.{verdictOf};
 ghost use Rattle.text.specs.Writing.{laid};
-ghost use Rattle.writer.specs.Promise.{valuesOf, StartsOf, headerOf, Promised};
+ghost use Rattle.writer.specs.Promise.{valuesOf, StartsOf, Promised};
 
 const HEADER_BYTES: usize = 16;
 
@@ -114,26 +114,30 @@ fn high(x: usize) -> u8
     low(x / 256)
 }
 
-// The header: mark, edition, counts, and where each part stands.
+// The header of content that passes 2, 3 and 5: mark, edition, counts, and where each part stands.
 fn header(
     edition: u8,
-    operations: usize,
-    classes: usize,
-    controls: usize,
-    arcs: usize,
+    operations: &[u8],
+    limits: &[u8],
+    controls: &[u8],
+    arcs: &[u8],
     starts: Starts,
 ) -> [u8; 16]
-    ensures { λ r. ⌜ r ≡ headerOf edition operations classes controls arcs starts ⌝ }
+    requires { ⌜ Listed (graphOf edition (now limits) (now operations) (now controls) (now arcs)) ⌝ }
+    requires { ⌜ StartsOf (now limits) (now operations) (now controls) (now arcs) starts ⌝ }
+    ensures { λ r. ⌜ r ≡ graphHeader (graphOf edition (now (limits .entry)) (now (operations .entry)) (now (controls .entry)) (now (arcs .entry))) ⌝ }
 {
+    let operation_count = parts::operation_count(edition as u32, operations);
+    let arc_count = parts::arc_count(arcs);
     [
         0x48,
         0x53,
         edition,
-        low(operations),
-        low(classes),
-        low(controls),
-        low(arcs),
-        high(arcs),
+        low(operation_count),
+        low(limits.len()),
+        low(controls.len()),
+        low(arc_count),
+        high(arc_count),
         low(HEADER_BYTES),
         high(HEADER_BYTES),
         low(starts.operations),
@@ -181,14 +185,7 @@ fn put_file(
     requires { ⌜ StartsOf (now limits) (now operations) (now controls) (now arcs) starts ⌝ }
     ensures { λ _. ⌜ now (output .exit) ≡ laid (now (output .entry)) 0 (graphFile (graphOf edition (now (limits .entry)) (now (operations .entry)) (now (controls .entry)) (now (arcs .entry)))) ⌝ }
 {
-    let header = header(
-        edition,
-        parts::operation_count(edition as u32, operations),
-        limits.len(),
-        controls.len(),
-        parts::arc_count(arcs),
-        starts,
-    );
+    let header = header(edition, operations, limits, controls, arcs, starts);
     put_parts(output, &header, limits, operations, controls, arcs, starts);
 }
 

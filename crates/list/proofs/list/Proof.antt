@@ -1,14 +1,14 @@
 -- `list::list` meets its contract. Assumes nothing.
 use Prim.Native.Nat.{ℕ, _≤_}
 use native.Mathlib.Omega.{arith}
-use mathlib.Core.Path.{_≡_, sym, _∙_, ap, ap₂, subst}
+use mathlib.Core.Path.{_≡_, sym, _∙_, ap₂, subst}
 use mathlib.Core.List.{List}
 use lib.ListN.{length}
 use lib.Seq.{length-take-le}
 use borrow.Author.Needs.{needs}
 use Rattle.meaning.specs.Graph.{content}
 use Rattle.meaning.specs.TableFile.{mostRows, rowStart, rowBytes, maskBytes}
-use Rattle.meaning.specs.Listing.{listing, printed}
+use Rattle.meaning.specs.Listing.{listing}
 use Rattle.meaning.proofs.Listing.{listing-printed, printed-short}
 use Rattle.listing.specs.Listed.{Listed}
 use Rattle.list.proofs.list.Statement.{statement}

@@ -1,5 +1,4 @@
 -- `listing::put_refusal` meets its contract. Assumes nothing.
-use native.Mathlib.Omega.{arith}
 use borrow.Author.Needs.{needs}
 use Rattle.meaning.specs.Listing.{ascii, field, firstLine}
 use Rattle.listing.proofs.PutLaws.{put-then}

@@ -1,5 +1,4 @@
 -- `listing::put_row` meets its contract. Assumes nothing.
-use native.Mathlib.Omega.{arith}
 use borrow.Author.Needs.{needs}
 use Rattle.meaning.specs.Listing.{ascii, field, rowLine}
 use Rattle.listing.specs.Listed.{rowOf}

@@ -1,7 +1,6 @@
 -- `steps::before` meets its contract. Assumes nothing.
 use mathlib.Core.Path.{refl}
 use Rattle.meaning.specs.Steps.{before}
-use borrow.Author.Needs.{needs}
 use Rattle.steps.proofs.before.Statement.{statement}
 use Rattle.steps.proofs.before.Tie as tie
 

@@ -1,7 +1,6 @@
 -- `steps::fallen` meets its contract. Assumes nothing.
 use mathlib.Core.Path.{refl}
 use Rattle.steps.specs.Forks.{fallen}
-use borrow.Author.Needs.{needs}
 use Rattle.steps.proofs.fallen.Statement.{statement}
 use Rattle.steps.proofs.fallen.Tie as tie
 

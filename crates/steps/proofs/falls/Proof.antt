@@ -3,7 +3,6 @@ use Prim.Native.Nat.{_^_, _<_}
 use native.Mathlib.Omega.{arith}
 use Rattle.masks.proofs.Bits.{lack-test}
 use Rattle.steps.specs.Forks.{falls}
-use borrow.Author.Needs.{needs}
 use Rattle.steps.proofs.falls.Statement.{statement}
 use Rattle.steps.proofs.falls.Tie as tie
 

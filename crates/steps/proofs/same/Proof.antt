@@ -1,7 +1,6 @@
 -- `steps::same` meets its contract. Assumes nothing.
 use mathlib.Core.Path.{refl}
 use Rattle.meaning.specs.Steps.{same}
-use borrow.Author.Needs.{needs}
 use Rattle.steps.proofs.same.Statement.{statement}
 use Rattle.steps.proofs.same.Tie as tie
 

@@ -1,6 +1,6 @@
 -- `text::put` meets its contract. What is left of the bytes, laid behind those that are written, makes the whole. Assumes
 -- nothing.
-use Prim.Native.Nat.{ℕ, _-_, _≤_, _<_}
+use Prim.Native.Nat.{_-_, _≤_, _<_}
 use native.Mathlib.Omega.{arith}
 use mathlib.Core.Path.{_≡_, sym, _∙_, ap}
 use lib.ListN.{length, getD, drop, length-set, drop-of-length-le}
