@@ -7,11 +7,13 @@ pub mod Refusals
 pub mod Lawful
 pub mod Finish
 pub mod Reach
+pub mod Progress
 pub mod Runs
 pub mod Clock
 pub mod Rising
 pub mod Search
 pub mod Lookup
 pub mod Schedule
+pub mod Idling
 pub mod Sound
 pub mod Views

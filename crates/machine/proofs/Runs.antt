@@ -5,13 +5,12 @@ use native.Mathlib.Nat.{eq-or-lt-of-le, le-of-suc-le-suc}
 use native.Mathlib.Omega.{arith}
 use mathlib.Core.Path.{_≡_, refl, sym, _∙_, ap, subst}
 use mathlib.Core.Logic.{⊎-elim}
-use mathlib.Core.Bool.{Bool, not, _||_}
+use mathlib.Core.Bool.{not, _||_}
 use lib.Dec.{T}
-use Rattle.machine.specs.Sets.{anyBelow, allBelow}
-use Rattle.machine.specs.Machine.{Machine, leads, finish, run, Met, begin, clock, stopped}
-use Rattle.machine.proofs.Truth.{both, or-cases, or-left, or-right, decided, contrary, refuted, true-of, false-of, of-true, of-false}
-use Rattle.machine.proofs.Sets.{all-of, any-of}
+use Rattle.machine.specs.Machine.{Machine, finish, run, Met, begin, clock, stopped}
+use Rattle.machine.proofs.Truth.{or-cases, decided, contrary, refuted, true-of, false-of, of-true, of-false}
 use Rattle.machine.proofs.Lawful.{Lawful}
+use Rattle.machine.proofs.Finish.{leads-of, finish-complete, finish-step}
 
 module _ (M : Machine) (L : Lawful M) (f : ℕ → M .State → ℕ) where
   -- the run on w is complete after t cycles, and it is not
@@ -172,32 +171,33 @@ module _ (M : Machine) (L : Lawful M) (f : ℕ → M .State → ℕ) where
         L .rank-falls (run M f (M .horizon) w) (stepAt (M .horizon) w) w (run-legal w l (M .horizon) n),
       )
 
-  -- Where all runs are legal and end within n cycles, the start can finish within n, and so can every state of the runs in
-  -- the cycles that are left.
-  module _ (n : ℕ) (legal : (w : ℕ) → w < M .words → LegalRun w) (ends : (w : ℕ) → w < M .words → Ended n w) where
-    run-finish : (k t w : ℕ) → k + t ≡ n → w < M .words → T (finish M k (run M f t w))
-    unfolding finish leads
-    run-finish zero t w e h = subst (λ (u : ℕ). Ended u w) (omega arith) (ends w h)
-    run-finish (suc k) t w e h = ⊎-elim (or-left (M .complete s) steps) (λ (u : Unfinished t w). or-right (M .complete s) steps (some u (λ v. next (branch t w u v) (run-finish k (suc t))))) (decided (M .complete s))
+  -- Where all runs end within n cycles, the start has every property of states and numbers of cycles that complete states
+  -- have with any number, and that a state of a run has with one cycle more than all its next states.
+  module _ (P : ℕ → M .State → Type 0) (at-end : (k : ℕ) (s : M .State) → T (M .complete s) → P k s)
+      (onward : (k t w : ℕ) → w < M .words → Unfinished t w → ((v : ℕ) → P k (after t w v)) → P (suc k) (run M f t w))
+      (n : ℕ) (ends : (w : ℕ) → w < M .words → Ended n w) where
+    run-has : (k t w : ℕ) → k + t ≡ n → w < M .words → P k (run M f t w)
+    run-has zero t w e h = at-end 0 (run M f t w) (subst (λ (u : ℕ). Ended u w) (omega arith) (ends w h))
+    run-has (suc k) t w e h =
+        ⊎-elim (at-end (suc k) (run M f t w))
+        (λ (u : Unfinished t w). onward k t w h u (λ v. next (branch t w u v) (run-has k (suc t))))
+        (decided (M .complete (run M f t w)))
       where
-        s : M .State
-        s = run M f t w
-
-        steps : Bool
-        steps = anyBelow (M .steps) (leads M (finish M k) s)
-
         next : {r : M .State} → (u : ℕ) × (u < M .words) × (r ≡ run M f (suc t) u)
-            → ((u : ℕ) → k + suc t ≡ n → u < M .words → T (finish M k (run M f (suc t) u))) → T (finish M k r)
-        next b ih = subst (λ (r : M .State). T (finish M k r)) (sym (b .2)) (ih (b .0) (omega arith) (b .1))
+            → ((u : ℕ) → k + suc t ≡ n → u < M .words → P k (run M f (suc t) u)) → P k r
+        next b ih = subst (P k) (sym (b .2)) (ih (b .0) (omega arith) (b .1))
 
-        some : T (not (M .complete s)) → ((v : ℕ) → T (finish M k (after t w v))) → T steps
-        some u all =
-            let x = f (suc t) s in
-            let lawful : T (M .legal s x) = run-legal w (legal w h) t u in
-            any-of (M .steps) (leads M (finish M k) s) x (L .step-below s x lawful)
-            (both (M .legal s x) (allBelow (M .words) (λ v. finish M k (M .next s x v))) lawful
-            (all-of (M .words) (λ v. finish M k (M .next s x v)) (λ v l. all v)))
-
-    pub runs-finish : T (finish M n (M .start))
+    pub start-has : P n (M .start)
     unfolding run
-    runs-finish = run-finish n 0 (M .word (M .start)) (omega arith) (L .word-start)
+    start-has = run-has n 0 (M .word (M .start)) (omega arith) (L .word-start)
+
+  -- So where all runs are legal and end within n cycles, the start can finish within n.
+  pub runs-finish : (n : ℕ) → ((w : ℕ) → w < M .words → LegalRun w) → ((w : ℕ) → w < M .words → Ended n w)
+      → T (finish M n (M .start))
+  runs-finish n legal ends = start-has (λ k s. T (finish M k s)) (finish-complete M) onward n ends
+    where
+      onward : (k t w : ℕ) → w < M .words → Unfinished t w → ((v : ℕ) → T (finish M k (after t w v))) → T (finish M (suc k) (run M f t w))
+      onward k t w h u all =
+          let s = run M f t w in
+          let l = run-legal w (legal w h) t u in
+          finish-step M k s (stepAt t w) (L .step-below s (stepAt t w) l) (leads-of M (finish M k) s (stepAt t w) l (λ v k. all v))

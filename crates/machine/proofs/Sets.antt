@@ -1,6 +1,6 @@
 -- Laws of sets as numbers and of tests, counts and lists below a bound. Assumes nothing.
 use Prim.Native.Nat.{ℕ, zero, suc, _+_, _-_, _*_, _^_, _/_, _%_, _≤_, _<_, zero-le}
-use native.Mathlib.Nat.{not-suc-le-zero, le-refl, le-of-lt, lt-suc-self, lt-of-lt-of-le, lt-irrefl, eq-or-lt-of-le, le-of-suc-le-suc, add-zero, add-suc, add-le-add, one-mul, zero-mul, suc-mul, mul-assoc, pow-succ', two-pow-succ, div-eq-of-lt, zero-div, mod-lt, mod-add-div', div-lt-iff-lt-mul, add-div-right, add-mul-div-right, add-mul-mod-self-right}
+use native.Mathlib.Nat.{not-suc-le-zero, le-refl, le-of-lt, lt-suc-self, lt-of-lt-of-le, lt-irrefl, eq-or-lt-of-le, le-of-suc-le-suc, zero-add, add-zero, add-suc, add-le-add, one-mul, zero-mul, suc-mul, mul-assoc, pow-succ', two-pow-succ, div-eq-of-lt, zero-div, mod-lt, mod-add-div', div-lt-iff-lt-mul, add-div-right, add-mul-div-right, add-mul-mod-self-right}
 use native.Mathlib.Omega.{arith}
 use mathlib.Core.Path.{_≡_, refl, sym, _∙_, ap, ap₂, subst}
 use mathlib.Core.Logic.{_⊎_, inl, inr, ⊎-elim}
@@ -9,7 +9,7 @@ use mathlib.Core.List.{List, [], _∷_, _++_, append-assoc, append-nil, flatMap,
 use lib.ListN.{length, getD, length-append}
 use lib.Arith.{le→nltb}
 use lib.Dec.{T, eqb, leb, ltb, leb→le, le→leb, nleb→lt, nltb→le}
-use borrow.Author.Tests.{lt-ltb, le-ltb}
+use borrow.Author.Tests.{eq-eqb, ne-eqb, lt-ltb, le-ltb}
 use lib.Pow.{pow-pos, pow-mono, pow-add}
 use Rattle.machine.specs.Sets.{has, allBelow, anyBelow, countBelow, firstBelow, maskBelow, listBelow}
 use Rattle.machine.proofs.Truth.{and-left, and-right, both, or-cases, or-left, or-right, not-or-left, not-or-right, decided, contrary, refuted, true-of, false-of, same-test}
@@ -217,6 +217,20 @@ count-mono zero f g h = le-refl zero
 count-mono (suc n) f g h =
     add-le-add (count-mono n f g (λ i l. h i (omega arith))) (one-at-most (f n) (g n) (h n (lt-suc-self n)))
 
+-- no number, and no two
+pub count-none : (n : ℕ) (f : ℕ → Bool) → ((i : ℕ) → i < n → T (not (f i))) → countBelow n f ≡ 0
+unfolding countBelow
+count-none zero f h = refl
+count-none (suc n) f h = rw (false-of (f n) (h n (lt-suc-self n)), count-none n f (λ i l. h i (omega arith))) refl
+
+pub count-one : (n : ℕ) (f : ℕ → Bool) → ((i j : ℕ) → i < j → j < n → T (f j) → T (not (f i))) → countBelow n f ≤ 1
+unfolding countBelow
+count-one zero f h = zero-le
+count-one (suc n) f h =
+    ⊎-elim (λ (t : T (f n)). rw (true-of (f n) t, count-none n f (λ i l. h i n l (lt-suc-self n) t)) (le-refl 1))
+    (λ (t : T (not (f n))). rw (false-of (f n) t, add-zero (countBelow n f)) (count-one n f (λ i j l k. h i j l (omega arith))))
+    (decided (f n))
+
 -- one more place makes the count larger
 pub count-less : (n : ℕ) (f g : ℕ → Bool) → ((i : ℕ) → i < n → T (f i) → T (g i)) → (j : ℕ) → j < n → T (not (f j)) → T (g j)
     → countBelow n f < countBelow n g
@@ -278,6 +292,23 @@ has-mod m n j h = sym (has-above (m % 2 ^ n) (m / 2 ^ n) n j h) ∙ ap (λ (k : 
 pub has-top : (m n : ℕ) → m < 2 ^ n → has (m + 2 ^ n) n ≡ true
 unfolding has
 has-top m n h = ap (λ (k : ℕ). eqb (k % 2) 1) (add-div-right m (pow-pos n) ∙ ap (λ (k : ℕ). k + 1) (div-eq-of-lt h))
+
+-- the set of one number
+pub has-power : (i j : ℕ) → has (2 ^ i) j ≡ eqb i j
+has-power i j =
+    ⊎-elim (λ (e : i ≡ j). subst (λ (k : ℕ). has (2 ^ i) k ≡ true) e one ∙ sym (eq-eqb i j e))
+    (λ (h : (i < j) ⊎ (j < i)). ⊎-elim higher lower h) (trichotomy i j)
+  where
+    one : has (2 ^ i) i ≡ true
+    one = ap (λ (k : ℕ). has k i) (sym (zero-add (2 ^ i))) ∙ has-top 0 i (pow-pos i)
+
+    higher : i < j → has (2 ^ i) j ≡ eqb i j
+    higher h = has-high (2 ^ i) (suc i) j (omega (arith, two-pow-succ i, pow-pos i)) h ∙ sym (ne-eqb i j (λ e. omega arith))
+
+    lower : j < i → has (2 ^ i) j ≡ eqb i j
+    lower h =
+        ap (λ (k : ℕ). has k j) (sym (one-mul (2 ^ i)) ∙ sym (zero-add (1 * 2 ^ i))) ∙ has-above 0 1 i j h ∙ has-zero j
+        ∙ sym (ne-eqb i j (λ e. omega arith))
 
 -- a set below 2 ^ n, with the member n where b holds
 pub join-lt : (m n : ℕ) (b : Bool) → m < 2 ^ n → m + cond b (2 ^ n) 0 < 2 ^ suc n

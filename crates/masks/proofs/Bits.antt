@@ -15,7 +15,7 @@ use mir.Val.{boolByte}
 use borrow.Author.Tests.{eq-eqb, ne-eqb, lt-ltb, le-ltb}
 use Rattle.machine.specs.Sets.{has, anyBelow, countBelow, firstBelow, maskBelow}
 use Rattle.machine.proofs.Truth.{and-left, and-right, both, contrary, of-true, of-false, same-test}
-use Rattle.machine.proofs.Sets.{First, le-or-lt, trichotomy, any-at, any-of, none-any, any-failed, any-same, first-none, first-unique, has-zero, has-high, has-above, has-mod, has-top, has-mask, mask-same, mask-of-has, count-same, member, member-below, set-below}
+use Rattle.machine.proofs.Sets.{First, le-or-lt, trichotomy, any-at, any-of, none-any, any-failed, any-same, first-none, first-unique, has-zero, has-high, has-above, has-mod, has-top, has-power, has-mask, mask-same, mask-of-has, count-same, member, member-below, set-below}
 
 -- A digit is 0 or 1.
 digit-lt : (m : ℕ) → m % 2 < 2
@@ -55,22 +55,6 @@ has-or a b j =
 -- The set of one number, as the machine shifts it.
 pub one-bit : (n j : ℕ) → j < n → 1 * 2 ^ j % 2 ^ n ≡ 2 ^ j
 one-bit n j h = shl-exact 1 j n (lit< tt) (omega arith) ∙ one-mul (2 ^ j)
-
-pub has-power : (i j : ℕ) → has (2 ^ i) j ≡ eqb i j
-has-power i j =
-    ⊎-elim (λ (e : i ≡ j). subst (λ (k : ℕ). has (2 ^ i) k ≡ true) e one ∙ sym (eq-eqb i j e))
-    (λ (h : (i < j) ⊎ (j < i)). ⊎-elim higher lower h) (trichotomy i j)
-  where
-    one : has (2 ^ i) i ≡ true
-    one = ap (λ (k : ℕ). has k i) (sym (zero-add (2 ^ i))) ∙ has-top 0 i (pow-pos i)
-
-    higher : i < j → has (2 ^ i) j ≡ eqb i j
-    higher h = has-high (2 ^ i) (suc i) j (omega (arith, two-pow-succ i, pow-pos i)) h ∙ sym (ne-eqb i j (λ e. omega arith))
-
-    lower : j < i → has (2 ^ i) j ≡ eqb i j
-    lower h =
-        ap (λ (k : ℕ). has k j) (sym (one-mul (2 ^ i)) ∙ sym (zero-add (1 * 2 ^ i))) ∙ has-above 0 1 i j h ∙ has-zero j
-        ∙ sym (ne-eqb i j (λ e. omega arith))
 
 -- The lowest bit is put in.
 pub or-one : (m : ℕ) → bitOr m 1 ≡ m / 2 * 2 + 1

@@ -1,4 +1,4 @@
--- P1 to P11, the listing of case A, and what the writer writes, by computation. Assumes nothing.
+-- P1 to P11, the listing of case A, what the writer writes, and what is certain of a graph, by computation. Assumes nothing.
 use Prim.Native.Nat.{ℕ}
 use mathlib.Core.Path.{_≡_, refl}
 use mathlib.Core.List.{List, map, flatMap}
@@ -13,7 +13,8 @@ use Rattle.meaning.specs.TableFile.{maskBytes, rowBytes, mostRows, rowSt
 use Rattle.meaning.specs.Answers.{answer, isTaken, graphLines, graphVerdict, scheduleLines, scheduleVerdict, scheduler, slotsAfter, tableAfter, tableLines, checkVerdict, checker}
 use Rattle.meaning.specs.Listing.{ascii, digits, decimal, field, firstLine, rowLine, printed}
 use Rattle.meaning.specs.Writer.{Writing, torn, graphHeader, graphFile, listLines, writeLines, writing, writeVerdict, writer, outputAfter}
-use Rattle.meaning.specs.Cases.{computed, expected, padded, cases, prints, writings}
+use Rattle.meaning.specs.Certain.{noFollowArc, noLimitZero, certainCycles}
+use Rattle.meaning.specs.Cases.{computed, expected, padded, cases, prints, writings, certainty, certainties}
 
 pub cases-hold : map computed cases ≡ map expected cases
 unfolding has allBelow anyBelow countBelow firstBelow maskBelow listBelow judge finish remaining leads best run holds added successors flatMap reached stateCount rises standsAt hasRow prescribed follows continues lastCycle orderLine soundLines scheduleRows known mostOperations mostClasses mostControls mostArcs operationBytes arcBytes byteAt littleEndian numberAt editionOf operationsOf classesOf controlsOf arcsOf operationsStart controlsStart arcsStart fileEnd fileLines content names misnamed lacks operationCount classCount controlCount arcCount limit class path producer source target kind joins strayPath unordered followsJoin contentLines resolved lost excluded void complete heldBack demanded overfull legal after before same maskBytes rowBytes mostRows rowStart cyclesOf rowsOf layoutLine tableIn bytesOf headerFile rowFile rowFiles tableFile scheduleFile answer isTaken graphLines graphVerdict scheduleLines scheduleVerdict scheduler slotsAfter tableAfter tableLines checkVerdict checker computed expected padded
@@ -29,3 +30,8 @@ pub writings-hold : map {B = Writing × List ℕ} (λ w. (writer (w .graph) (rep
     ≡ map {B = Writing × List ℕ} (λ w. (w .answer, w .output)) writings
 unfolding has allBelow anyBelow firstBelow judge known mostOperations mostClasses mostControls mostArcs operationBytes arcBytes byteAt names misnamed lacks operationCount classCount controlCount arcCount class path producer source target kind joins strayPath unordered followsJoin contentLines bytesOf isTaken torn graphHeader graphFile listLines writeLines writing writeVerdict writer outputAfter writings
 writings-hold = refl
+
+-- What is certain of a graph can not be sharpened: the bound is taken, and each condition is needed.
+pub certainties-hold : map (λ p. certainty (p .0)) certainties ≡ map (λ p. p .1) certainties
+unfolding has allBelow anyBelow countBelow firstBelow maskBelow listBelow judge finish remaining leads best run holds added successors flatMap reached stateCount scheduleRows known mostOperations mostClasses mostControls mostArcs operationBytes arcBytes byteAt littleEndian numberAt editionOf operationsOf classesOf controlsOf arcsOf operationsStart controlsStart arcsStart fileEnd fileLines content names misnamed lacks operationCount classCount controlCount arcCount limit class path producer source target kind joins strayPath unordered followsJoin contentLines resolved lost excluded void complete heldBack demanded overfull legal after before same maskBytes rowBytes mostRows rowStart bytesOf headerFile rowFile rowFiles tableFile scheduleFile answer isTaken graphLines graphVerdict scheduleLines scheduleVerdict scheduler noFollowArc noLimitZero certainCycles certainty certainties
+certainties-hold = refl

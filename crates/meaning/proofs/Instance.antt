@@ -3,7 +3,7 @@ use Prim.Native.Nat.{ℕ, _<_}
 use native.Mathlib.Omega.{arith}
 use mathlib.Core.Path.{_≡_, refl, sym, _∙_, subst}
 use mathlib.Core.Logic.{_⊎_, inl, inr, ⊎-elim}
-use mathlib.Core.Bool.{Bool, not}
+use mathlib.Core.Bool.{Bool, false, not}
 use lib.Dec.{T}
 use lib.Pow.{pow-pos}
 use Rattle.machine.specs.Sets.{has, countBelow}
@@ -41,7 +41,7 @@ says-same : (r s : State) → Says (same r s) ((r .done ≡ s .done) × (r .valu
 unfolding same
 says-same r s = says-and (says-eqb (r .done) (s .done)) (says-eqb (r .values) (s .values))
 
-state-ext : (r s : State) → r .done ≡ s .done → r .values ≡ s .values → r ≡ s
+pub state-ext : (r s : State) → r .done ≡ s .done → r .values ≡ s .values → r ≡ s
 state-ext r s d v = λ i. record { done = d i; values = v i }
 
 -- the number of operations that are not done
@@ -49,7 +49,7 @@ abbrev pub undone : Graph → State → ℕ
 undone g s = countBelow (operationCount g) (λ j. not (has (s .done) j))
 
 -- control b is resolved in s
-abbrev settled : Graph → State → ℕ → Bool
+abbrev pub settled : Graph → State → ℕ → Bool
 settled g s b = resolved g (s .done) (s .values) b
 
 -- the word w agrees with s on every resolved control
@@ -83,6 +83,12 @@ module _ (g : Graph) (taken : Taken g) (s : State) (x : ℕ) where
   settled-cases : (w b : ℕ) → T (settled g (next w) b) → T (settled g s b) ⊎ T (has x (producer g b))
   unfolding resolved
   settled-cases w b t = nothing-else g s x w (producer g b) t .1
+
+  -- a control that is still open afterwards has no value
+  pub open-values : (w b : ℕ) → b < controlCount g → T (not (settled g (next w) b)) → has (next w .values) b ≡ false
+  open-values w b h n =
+      fork-open g s x w b h (refuted (settled g s b) (λ t. contrary (settled g (next w) b) (settled-stays w b h t) n))
+      (refuted (has x (producer g b)) (λ t. contrary (settled g (next w) b) (settled-begun w b h t) n))
 
   agrees-next : (w : ℕ) → Agrees g s w → Agrees g (next w) w
   agrees-next w on b h t =

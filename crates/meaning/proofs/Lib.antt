@@ -8,6 +8,8 @@ pub mod TableFile
 pub mod Query
 pub mod Demands
 pub mod Sentences
+pub mod Certain
+pub mod Idling
 pub mod Listing
 pub mod Kept
 pub mod Writer

@@ -1,11 +1,14 @@
--- Document 01's cases P1 to P11, what the program prints, and what the writer writes: what is given, and what has to come out.
+-- Document 01's cases P1 to P11, what the program prints, what the writer writes, and what is certain of a graph: what is given,
+-- and what has to come out.
 use Prim.Native.Nat.{ℕ}
 use Prim.Native.String.{String}
+use mathlib.Core.Bool.{Bool, true, false}
 use mathlib.Core.List.{List, [], _∷_, _++_}
 use lib.ListN.{replicate, take}
 use Rattle.machine.specs.Refusals.{taken, refused}
-use Rattle.meaning.specs.Graph.{Graph, graphOf}
+use Rattle.meaning.specs.Graph.{Graph, graphOf, content}
 use Rattle.meaning.specs.Answers.{Answer, scheduler, tableAfter, checker}
+use Rattle.meaning.specs.Certain.{noFollowArc, noLimitZero, certainCycles}
 use Rattle.meaning.specs.Writer.{Writing}
 
 -- the scheduler on a graph with so many slots, its answer and the table; or the checker on a graph and a table
@@ -129,4 +132,36 @@ writings =
     ∷ refuses (graphOf 1 [] (replicate 74 0) [] []) 0 5 0
     ∷ refuses (graphOf 1 [] (replicate 72 0) [] []) 0 6 0
     ∷ refuses (listsA operationsA (1 ∷ [])) 0 9 1
+    ∷ []
+
+-- Request 02: the two conditions for a certain schedule, the cycles that are certain then, and what the scheduler answers with
+-- 12 slots.
+pub record Certainty : Type 0 where
+  pub noFollow : Bool
+  pub noZero : Bool
+  pub cycles : ℕ
+  pub answer : Answer
+
+unfoldable pub certainty : List ℕ → Certainty
+certainty file =
+    record {
+      noFollow = noFollowArc (content file);
+      noZero = noLimitZero (content file);
+      cycles = certainCycles (content file);
+      answer = scheduler file (replicate 12 1) (replicate 40 7);
+    }
+
+-- two operations of one class, limit 1, arc 0 to 1
+abbrev graphChain : List ℕ
+graphChain =
+    0x48 ∷ 0x53 ∷ 1 ∷ 2 ∷ 1 ∷ 0 ∷ 1 ∷ 0 ∷ 16 ∷ 0 ∷ 17 ∷ 0 ∷ 23 ∷ 0 ∷ 23 ∷ 0
+    ∷ 1 ∷ 0 ∷ 0 ∷ 0 ∷ 0 ∷ 0 ∷ 0
+    ∷ 0 ∷ 1 ∷ 0 ∷ 0 ∷ 0 ∷ []
+
+-- The chain takes all cycles that are certain. With follow arcs alone, or a limit of 0 alone, there may be no schedule.
+unfoldable pub certainties : List (List ℕ × Certainty)
+certainties =
+    (graphChain, record { noFollow = true; noZero = true; cycles = 2; answer = success 2 2 3 })
+    ∷ (graphFollow, record { noFollow = false; noZero = true; cycles = 3; answer = refusal 13 0 })
+    ∷ (graphA 0, record { noFollow = true; noZero = false; cycles = 3; answer = refusal 13 0 })
     ∷ []

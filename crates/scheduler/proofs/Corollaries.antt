@@ -1,25 +1,31 @@
 -- What the scheduler's promise says: one outcome for each input; each refusal, and a success, exactly when; the table of a
--- success is accepted, has the fewest cycles and consists of bytes; the states counted are the reachable ones. Assumes nothing.
+-- success is accepted, has the fewest cycles and consists of bytes; the states counted are the reachable ones; when a schedule
+-- is certain, and that empty steps would not help. Assumes nothing.
 use Prim.Native.Nat.{ℕ, suc, _+_, _*_, _≤_, _<_}
-use native.Mathlib.Nat.{le-trans}
+use native.Mathlib.Nat.{le-trans, not-le-of-lt}
 use mathlib.Core.Path.{_≡_, refl, sym, _∙_, ap, subst}
 use mathlib.Core.Logic.{_↔_, _≢_, Iff·trans}
-use mathlib.Core.Bool.{cond}
+use mathlib.Core.Bool.{cond, not}
 use mathlib.Core.List.{List, _++_}
 use lib.ListN.{length, take, drop}
 use lib.Seq.{take-at}
+use lib.Dec.{T}
 use Rattle.machine.specs.Refusals.{Verdict, taken, refused}
-use Rattle.machine.specs.Machine.{Machine, remaining, stateCount}
+use Rattle.machine.specs.Machine.{Machine, finish, remaining, run, stateCount}
 use Rattle.machine.specs.Tables.{scheduleRows}
+use Rattle.machine.proofs.Truth.{refuted}
 use Rattle.machine.proofs.Refusals.{Given, judge-refused}
 use Rattle.machine.proofs.Reach.{Counts, state-count}
 use Rattle.meaning.specs.Graph.{content}
 use Rattle.meaning.specs.Steps.{machineOf}
 use Rattle.meaning.specs.TableFile.{mostRows, rowStart, cyclesOf, scheduleFile}
 use Rattle.meaning.specs.Answers.{Answer, answer, isTaken, graphLines, graphVerdict, scheduleLines, scheduleVerdict, scheduler, tableAfter, checkVerdict}
+use Rattle.meaning.specs.Certain.{certain, certainCycles, idlingOf}
 use Rattle.meaning.proofs.Bytes.{AreBytes}
 use Rattle.meaning.proofs.TableFile.{file-cycles, schedule-length, schedule-eights}
 use Rattle.meaning.proofs.Demands.{SomeAccepted, NoneAccepted, twelve-means, thirteen-means, fourteen-means, success-means, lawful-in, schedule-bytes, room-enough, none-at-all, some-accepted, none-accepted, schedule-exactly, schedule-shortest}
+use Rattle.meaning.proofs.Certain.{certain-found, certain-least}
+use Rattle.meaning.proofs.Idling.{prescribedIn, AllPermitted, AllComplete, idling-within, idling-ended, idling-long}
 use Rattle.scheduler.specs.declared.Scheduled.{Scheduled}
 use Rattle.scheduler.specs.declared.Scheduled.the-variants.{Refused, Done}
 use Rattle.scheduler.specs.Promise.{valuesOf, Promised}
@@ -109,6 +115,22 @@ module _ (file slots table : List ℕ) (r : Scheduled) (slotsLast tableLast : Li
   pub thirteen-given : graphVerdict file ≡ taken → stateCount M ≤ length slots → NoneAccepted file → r ≡ Refused 13 0
   thirteen-given g h none = thirteen-exactly .1 (g, h, none)
 
+  -- Never for a graph with no follow arc and no limit of 0 on a class in use, whatever slots and buffer are lent.
+  pub certain-never-thirteen : T (certain (content file)) → r ≢ Refused 13 0
+  certain-never-thirteen c e =
+      let q = thirteen-means file slots table .0 (refusal-is 13 0 .0 e) in not-le-of-lt (q .1 .1) (certain-found file (q .0) c)
+
+  -- Where it is given, empty steps would not help either: with them permitted the start cannot be brought to complete within
+  -- any number of cycles, and the runs of no table with empty steps are ever all complete.
+  pub thirteen-idling : r ≡ Refused 13 0 → (t : ℕ) → T (not (finish (idlingOf (content file)) t (M .start)))
+  thirteen-idling e t =
+      let q = thirteen-means file slots table .0 (refusal-is 13 0 .0 e) in
+      refuted (finish (idlingOf (content file)) t (M .start)) (λ h. not-le-of-lt (q .1 .1) (idling-within file (q .0) t h .0))
+
+  pub thirteen-idling-tables : r ≡ Refused 13 0 → (other : List ℕ) → AllPermitted (content file) other → (t : ℕ) → ¬ AllComplete (content file) other t
+  thirteen-idling-tables e other legal t ends =
+      let q = thirteen-means file slots table .0 (refusal-is 13 0 .0 e) in not-le-of-lt (q .1 .1) (idling-ended file (q .0) other legal t ends .0)
+
   -- 14 is given exactly when the graph is taken, the slots are enough, a table is accepted, and the buffer is shorter than
   -- the schedule's file, which has 8 + 8r bytes for its r rows.
   pub fourteen-exactly : (r ≡ Refused 14 0)
@@ -132,6 +154,15 @@ module _ (file slots table : List ℕ) (r : Scheduled) (slotsLast tableLast : Li
       λ e. some-accepted file graph .0 (success-means file slots table .0 (success-is .0 e) .1 .1 .0),
       λ a. succeeds-exactly (le-trans (room-enough file graph (some-accepted file graph .1 a)) room) .1 a,
     )
+
+    -- A graph with no follow arc and no limit of 0 on a class in use is scheduled, given room for the schedule's file or for as
+    -- many rows as a table may have.
+    pub certain-succeeds : T (certain (content file)) → length (scheduleFile (content file)) ≤ length table → r ≡ success
+    certain-succeeds c room = succeeds-exactly room .1 (some-accepted file graph .0 (certain-found file graph c))
+
+    pub certain-roomy : T (certain (content file)) → rowStart (content file .edition) (suc (mostRows (content file .edition))) ≤ length table
+        → r ≡ success
+    certain-roomy c room = succeeds-roomy room .1 (some-accepted file graph .0 (certain-found file graph c))
 
   -- a success
   module _ (cycles rows states : ℕ) (e : r ≡ Done cycles rows states) where
@@ -202,3 +233,20 @@ module _ (file slots table : List ℕ) (r : Scheduled) (slotsLast tableLast : Li
     -- The states counted are the reachable states, each once.
     pub states-counted : Counts M states
     states-counted = subst (Counts M) (sym states-are) (state-count M (lawful-in file graph))
+
+    -- A graph with no follow arc and no limit of 0 on a class in use gets as many cycles as it has operations at most.
+    pub certain-cycles : T (certain (content file)) → cycles ≤ certainCycles (content file)
+    certain-cycles c = subst (λ (k : ℕ). k ≤ certainCycles (content file)) (sym cycles-are) (certain-least file graph c)
+
+    -- Empty steps would not give fewer cycles: not if the start could be brought to complete within t cycles with them permitted,
+    -- however the tests fall, and not by a table with empty steps whose runs are all complete after t cycles.
+    pub idling-never-helps : (t : ℕ) → T (finish (idlingOf (content file)) t (M .start)) → cycles ≤ t
+    idling-never-helps t h = subst (λ (k : ℕ). k ≤ t) (sym cycles-are) (idling-within file graph t h .1)
+
+    pub idling-tables : (other : List ℕ) → AllPermitted (content file) other → (t : ℕ) → AllComplete (content file) other t → cycles ≤ t
+    idling-tables other legal t ends = subst (λ (k : ℕ). k ≤ t) (sym cycles-are) (idling-ended file graph other legal t ends .1)
+
+    -- So such a table's longest run has at least that many: in every cycle before, some run is not complete.
+    pub idling-longest : (other : List ℕ) → AllPermitted (content file) other → (t : ℕ) → t < cycles
+        → (w : ℕ) × (w < M .words) × T (not (M .complete (run (idlingOf (content file)) (prescribedIn (content file) other) t w)))
+    idling-longest other legal t h = idling-long file graph other legal t (subst (λ (k : ℕ). t < k) cycles-are h)

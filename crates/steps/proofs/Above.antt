@@ -13,8 +13,8 @@ use lib.Pow.{pow-pos, pow-lt, split, high, shr-shr, shr-mono}
 use borrow.Author.Tests.{eq-eqb}
 use Rattle.machine.specs.Sets.{has, anyBelow, firstBelow}
 use Rattle.machine.proofs.Truth.{and-left, and-right, both, not-and, and-not, not-not-elim, decided, contrary, refuted, of-true, of-false}
-use Rattle.machine.proofs.Sets.{First, le-or-lt, trichotomy, any-of, none-any, any-failed, first-none, first-some, first-le, first-below, first-unique, first-same, has-zero, member, member-below}
-use Rattle.masks.proofs.Bits.{has-and, has-opposite, has-power, one-bit}
+use Rattle.machine.proofs.Sets.{First, le-or-lt, trichotomy, any-of, none-any, any-failed, first-none, first-some, first-le, first-below, first-unique, first-same, has-zero, has-power, member, member-below}
+use Rattle.masks.proofs.Bits.{has-and, has-opposite, one-bit}
 use Rattle.steps.specs.Moves.{leastFrom, raised}
 
 halved : (x n : ℕ) → x / 2 ^ suc n ≡ x / 2 ^ n / 2

@@ -14,8 +14,8 @@ use borrow.Author.Tests.{eq-eqb, lt-ltb, le-ltb}
 use Rattle.machine.specs.Sets.{has, countBelow}
 use Rattle.machine.proofs.Says.{Says, says-test, says-ltb, says-and}
 use Rattle.machine.proofs.Truth.{and-left, and-right, both, not-and, and-not, not-not-elim, not-not-intro, true-of, of-true}
-use Rattle.machine.proofs.Sets.{le-or-lt, all-at, all-of, any-failed, none-any, count-mono, has-zero, has-above, has-mod, set-ext, member-below, set-below}
-use Rattle.masks.proofs.Bits.{has-and, has-or, has-opposite, has-power, has-shift, or-one}
+use Rattle.machine.proofs.Sets.{le-or-lt, all-at, all-of, any-failed, none-any, count-mono, has-zero, has-above, has-mod, has-power, set-ext, member-below, set-below}
+use Rattle.masks.proofs.Bits.{has-and, has-or, has-opposite, has-shift, or-one}
 use Rattle.steps.specs.Moves.{apart, within, roomy, fits, raised, allows}
 use Rattle.steps.specs.declared.Moves.{Moves}
 use Rattle.steps.proofs.Above.{lowered}
