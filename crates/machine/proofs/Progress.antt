@@ -1,11 +1,11 @@
 -- Where no reachable state is stuck, each finishes within its rank, so a schedule is certain. Assumes nothing.
-use Prim.Native.Nat.{ℕ, zero, suc, _≤_, _<_}
+use Prim.Native.Nat.{ℕ, zero, suc, _≤_}
 use native.Mathlib.Nat.{le-refl, le-trans, not-suc-le-zero}
 use native.Mathlib.Omega.{arith}
 use mathlib.Core.Logic.{⊎-elim}
 use mathlib.Core.Bool.{not}
 use lib.Dec.{T}
-use Rattle.machine.specs.Machine.{Machine, finish, remaining, Reachable, begin, step}
+use Rattle.machine.specs.Machine.{Machine, finish, remaining, Reachable}
 use Rattle.machine.proofs.Truth.{decided, false-of}
 use Rattle.machine.proofs.Lawful.{Lawful}
 use Rattle.machine.proofs.Finish.{leads-of, finish-complete, finish-step, remaining-least}

@@ -1,10 +1,10 @@
 -- Laws that connect the machine's operations on bits with the members of a set. Assumes nothing.
 use Prim.Native.Nat.{ℕ, zero, suc, max, _+_, _-_, _*_, _^_, _/_, _%_, _≤_, _<_}
-use native.Mathlib.Nat.{eq-zero-or-pos, div-one, mod-lt, zero-lt-suc, zero-add, add-comm, sub-zero, one-mul, zero-mul, two-pow-succ, lt-of-le-of-lt, lt-of-lt-of-le, div-lt-iff-lt-mul}
+use native.Mathlib.Nat.{eq-zero-or-pos, div-one, mod-lt, zero-lt-suc, add-comm, sub-zero, one-mul, zero-mul, two-pow-succ, lt-of-le-of-lt, lt-of-lt-of-le, div-lt-iff-lt-mul}
 use native.Mathlib.Numerals.{one-add}
 use native.Mathlib.Omega.{arith}
 use mathlib.Core.Path.{_≡_, refl, sym, _∙_, ap, ap₂, subst}
-use mathlib.Core.Logic.{_⊎_, ⊎-elim}
+use mathlib.Core.Logic.{⊎-elim}
 use mathlib.Core.Bool.{Bool, true, false, cond, not, _&&_, _||_, and-true, and-false, or-false, Bool·not-not}
 use lib.Dec.{T, eqb, ltb, lit<, eqb→eq, ltb→lt, lt→ltb}
 use lib.Arith.{lt-one}
@@ -15,7 +15,7 @@ use mir.Val.{boolByte}
 use borrow.Author.Tests.{eq-eqb, ne-eqb, lt-ltb, le-ltb}
 use Rattle.machine.specs.Sets.{has, anyBelow, countBelow, firstBelow, maskBelow}
 use Rattle.machine.proofs.Truth.{and-left, and-right, both, contrary, of-true, of-false, same-test}
-use Rattle.machine.proofs.Sets.{First, le-or-lt, trichotomy, any-at, any-of, none-any, any-failed, any-same, first-none, first-unique, has-zero, has-high, has-above, has-mod, has-top, has-power, has-mask, mask-same, mask-of-has, count-same, member, member-below, set-below}
+use Rattle.machine.proofs.Sets.{First, le-or-lt, any-at, any-of, none-any, any-failed, any-same, first-none, first-unique, has-zero, has-high, has-mod, has-power, has-mask, mask-same, mask-of-has, count-same, member, member-below, set-below}
 
 -- A digit is 0 or 1.
 digit-lt : (m : ℕ) → m % 2 < 2

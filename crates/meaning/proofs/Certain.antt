@@ -11,30 +11,30 @@ use lib.Dec.{T, eqb, eqb→eq}
 use lib.Pow.{pow-pos}
 use Rattle.machine.specs.Sets.{has, countBelow, firstBelow}
 use Rattle.machine.specs.Refusals.{taken}
-use Rattle.machine.specs.Machine.{remaining}
-use Rattle.machine.proofs.Truth.{and-left, and-right, both, or-cases, not-or-left, not-or-right, contrary, refuted, not-not-elim}
-use Rattle.machine.proofs.Sets.{First, trichotomy, all-failed, any-of, first-some, count-none, count-one, has-power}
-use Rattle.machine.proofs.Says.{says-all, says-not, denies-eqb}
-use Rattle.machine.proofs.Progress.{Progress, certain-number}
+use Rattle.machine.specs.Machine.{remaining, Reachable}
+use Rattle.machine.proofs.Truth.{and-left, and-right, or-cases, not-or-left, not-or-right, contrary, refuted, not-not-elim}
+use Rattle.machine.proofs.Sets.{First, all-failed, any-of, first-some, count-none, count-one, has-power}
+use Rattle.machine.proofs.Says.{says-and, says-all, says-not, denies-eqb}
+use Rattle.machine.proofs.Progress.{Progress, progress-remaining, certain-number}
 use Rattle.meaning.specs.Graph.{Graph, Literals, content, operationCount, controlCount, arcCount, limit, class, path, source, target, kind, joins}
-use Rattle.meaning.specs.Steps.{State, excluded, void, complete, legal, machineOf}
+use Rattle.meaning.specs.Steps.{State, excluded, void, complete, legal}
 use Rattle.meaning.specs.TableFile.{cyclesOf, scheduleFile}
 use Rattle.meaning.specs.Answers.{graphVerdict, checkVerdict}
 use Rattle.meaning.specs.Certain.{noFollowArc, noLimitZero, certain, certainCycles}
 use Rattle.meaning.proofs.Bytes.{AreBytes}
 use Rattle.meaning.proofs.Taken.{Taken, accepted-of}
-use Rattle.meaning.proofs.Legal.{Lost, Legal, excluded-means, void-means, legal-means}
+use Rattle.meaning.proofs.Legal.{Lost, excluded-means, void-means, legal-means}
+use Rattle.meaning.proofs.Instance.{undone, lawful, rank-is}
 use Rattle.meaning.proofs.Demands.{machineIn, lawful-in, schedule-bytes, schedule-accepted, schedule-cycles}
 
--- The two conditions in words.
-module _ (g : Graph) where
-  pub follow-means : T (noFollowArc g) ↔ ((a : ℕ) → a < arcCount g → kind g a ≢ 1)
-  unfolding noFollowArc
-  follow-means = let r = says-all {n = arcCount g} (λ a. says-not (denies-eqb (kind g a) 1)) in (r .to, r .from)
-
-  pub limits-means : T (noLimitZero g) ↔ ((j : ℕ) → j < operationCount g → limit g (class g j) ≢ 0)
-  unfolding noLimitZero
-  limits-means = let r = says-all {n = operationCount g} (λ j. says-not (denies-eqb (limit g (class g j)) 0)) in (r .to, r .from)
+-- A schedule is certain: no arc is a follow arc, and no operation is in a class whose limit is 0.
+pub certain-means : (g : Graph) → T (certain g)
+    ↔ (((a : ℕ) → a < arcCount g → kind g a ≢ 1) × ((j : ℕ) → j < operationCount g → limit g (class g j) ≢ 0))
+unfolding certain noFollowArc noLimitZero
+certain-means g =
+    let r = says-and (says-all {n = arcCount g} (λ a. says-not (denies-eqb (kind g a) 1)))
+    (says-all {n = operationCount g} (λ j. says-not (denies-eqb (limit g (class g j)) 0))) in
+    (r .to, r .from)
 
 -- A state of a taken graph, reachable or not.
 module _ (g : Graph) (ok : Taken g) (s : State) where
@@ -127,15 +127,14 @@ module _ (g : Graph) (ok : Taken g) (s : State) where
 
     -- and where no arc is a follow arc it is legal.
     pub lowest-legal : T (certain g) → T (legal g s (2 ^ j))
-    unfolding certain
     lowest-legal c =
         legal-means g s (2 ^ j) .1 (record {
           filled = pow-pos j;
           fresh = λ i t. subst (λ (k : ℕ). (k < operationCount g) × T (not (has (s .done) k))) (only i t) (lowest .below, not-done);
           dependency = λ a h t v. lowest-ready a h (sym (only (target g a) t)) v;
-          resource = λ k h. within-limits (limits-means g .0 (and-right (noFollowArc g) (noLimitZero g) c) j (lowest .below)) k;
+          resource = λ k h. within-limits (certain-means g .0 c .1 j (lowest .below)) k;
           exclusion = λ i t. subst (λ (k : ℕ). T (not (isExcluded k))) (only i t) not-excluded;
-          immediacy = λ a h e l d n. absurd (follow-means g .0 (and-left (noFollowArc g) (noLimitZero g) c) a h e);
+          immediacy = λ a h e l d n. absurd (certain-means g .0 c .0 a h e);
         })
 
   -- So a state that is not complete has a legal step.
@@ -151,7 +150,15 @@ module _ (file : List ℕ) (ok : graphVerdict file ≡ taken) (c : T (certain (c
   certain-progress : Progress (machineIn file ok)
   certain-progress s r n = never-stuck (content file) (accepted-of file ok .taken) s c n
 
-  -- The start has a remaining number, which is the number of operations at most.
+  -- Every reachable state has a remaining number, which is the number of operations that are not done at most: no legal step leads
+  -- to a dead end.
+  pub certain-reachable : (s : State) → Reachable (machineIn file ok) s → remaining (machineIn file ok) s ≤ undone (content file) s
+  certain-reachable s r =
+      let accepted = accepted-of file ok .taken in
+      subst (λ (k : ℕ). remaining (machineIn file ok) s ≤ k) (rank-is (content file) accepted s)
+      (progress-remaining (machineIn file ok) (lawful (content file) accepted) certain-progress s r)
+
+  -- The start has one, which is the number of operations at most.
   pub certain-found : remaining (machineIn file ok) (machineIn file ok .start) ≤ machineIn file ok .horizon
   certain-found = certain-number (machineIn file ok) (lawful-in file ok) certain-progress
 

@@ -1,9 +1,9 @@
 -- Request 02: permitting empty steps where immediacy allows them gives no schedule where there is none, and none with a shorter
 -- longest run. Assumes nothing.
-use Prim.Native.Nat.{ℕ, suc, _^_, _≤_, _<_}
+use Prim.Native.Nat.{ℕ, _^_, _≤_, _<_}
 use mathlib.Core.Path.{_≡_, refl, sym, _∙_, subst}
-use mathlib.Core.Logic.{_⊎_, ⊎-elim, _↔_}
-use mathlib.Core.Bool.{false, not, _||_}
+use mathlib.Core.Logic.{⊎-elim, _↔_}
+use mathlib.Core.Bool.{false, not}
 use mathlib.Core.List.{List}
 use lib.Dec.{T}
 use lib.Pow.{pow-pos}
@@ -11,7 +11,7 @@ use Rattle.machine.specs.Sets.{has}
 use Rattle.machine.specs.Refusals.{taken}
 use Rattle.machine.specs.Machine.{finish, remaining, run}
 use Rattle.machine.specs.Tables.{prescribed}
-use Rattle.machine.proofs.Truth.{or-cases, decided, refuted, same-test}
+use Rattle.machine.proofs.Truth.{decided, refuted, same-test}
 use Rattle.machine.proofs.Sets.{has-zero, set-ext}
 use Rattle.machine.proofs.Says.{says-all, says-not, says-test, says-eqb, says-and, denies-not, denies-and, denies-any}
 use Rattle.machine.proofs.Idling.{Still, Idle, AllLegal, AllEnded, idling-least, idling-runs, idling-longest}

@@ -144,3 +144,8 @@ lawful g taken =
       on-same = agrees-same g taken;
       on-word = λ s b h t. refl;
     }
+
+-- its rank is the number of operations that are not done
+pub rank-is : (g : Graph) (ok : Taken g) (s : State) → lawful g ok .rank s ≡ undone g s
+unfolding lawful
+rank-is g ok s = refl

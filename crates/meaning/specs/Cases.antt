@@ -1,14 +1,19 @@
--- Document 01's cases P1 to P11, what the program prints, what the writer writes, and what is certain of a graph: what is given,
--- and what has to come out.
-use Prim.Native.Nat.{ℕ}
+-- Document 01's cases P1 to P11, what the program prints, what the writer writes, what is certain of a graph, and empty steps: what
+-- is given, and what has to come out.
+use Prim.Native.Nat.{ℕ, suc}
 use Prim.Native.String.{String}
-use mathlib.Core.Bool.{Bool, true, false}
+use mathlib.Core.Bool.{Bool, true, false, _||_}
 use mathlib.Core.List.{List, [], _∷_, _++_}
 use lib.ListN.{replicate, take}
+use Rattle.machine.specs.Sets.{allBelow}
 use Rattle.machine.specs.Refusals.{taken, refused}
+use Rattle.machine.specs.Machine.{run}
+use Rattle.machine.specs.Tables.{prescribed}
 use Rattle.meaning.specs.Graph.{Graph, graphOf, content}
+use Rattle.meaning.specs.Steps.{machineOf}
+use Rattle.meaning.specs.TableFile.{tableIn}
 use Rattle.meaning.specs.Answers.{Answer, scheduler, tableAfter, checker}
-use Rattle.meaning.specs.Certain.{noFollowArc, noLimitZero, certainCycles}
+use Rattle.meaning.specs.Certain.{noFollowArc, noLimitZero, certain, certainCycles, idlingOf}
 use Rattle.meaning.specs.Writer.{Writing}
 
 -- the scheduler on a graph with so many slots, its answer and the table; or the checker on a graph and a table
@@ -134,11 +139,12 @@ writings =
     ∷ refuses (listsA operationsA (1 ∷ [])) 0 9 1
     ∷ []
 
--- Request 02: the two conditions for a certain schedule, the cycles that are certain then, and what the scheduler answers with
--- 12 slots.
+-- Request 02: the two conditions for a certain schedule, whether it is certain, the cycles that are then, and what the scheduler
+-- answers with 12 slots.
 pub record Certainty : Type 0 where
   pub noFollow : Bool
   pub noZero : Bool
+  pub isCertain : Bool
   pub cycles : ℕ
   pub answer : Answer
 
@@ -147,6 +153,7 @@ certainty file =
     record {
       noFollow = noFollowArc (content file);
       noZero = noLimitZero (content file);
+      isCertain = certain (content file);
       cycles = certainCycles (content file);
       answer = scheduler file (replicate 12 1) (replicate 40 7);
     }
@@ -161,7 +168,49 @@ graphChain =
 -- The chain takes all cycles that are certain. With follow arcs alone, or a limit of 0 alone, there may be no schedule.
 unfoldable pub certainties : List (List ℕ × Certainty)
 certainties =
-    (graphChain, record { noFollow = true; noZero = true; cycles = 2; answer = success 2 2 3 })
-    ∷ (graphFollow, record { noFollow = false; noZero = true; cycles = 3; answer = refusal 13 0 })
-    ∷ (graphA 0, record { noFollow = true; noZero = false; cycles = 3; answer = refusal 13 0 })
+    (graphChain, record { noFollow = true; noZero = true; isCertain = true; cycles = 2; answer = success 2 2 3 })
+    ∷ (graphFollow, record { noFollow = false; noZero = true; isCertain = false; cycles = 3; answer = refusal 13 0 })
+    ∷ (graphA 0, record { noFollow = true; noZero = false; isCertain = false; cycles = 3; answer = refusal 13 0 })
+    ∷ []
+
+-- whether the empty step is permitted, once empty steps are, in a state with these operations done and no control true
+pub record EmptyStep : Type 0 where
+  pub file : List ℕ
+  pub done : ℕ
+  pub permitted : Bool
+
+unfoldable pub emptySteps : List EmptyStep
+emptySteps =
+    record { file = graphA 1; done = 0; permitted = true }
+    ∷ record { file = graphFollow; done = 0; permitted = true }
+    ∷ record { file = graphFollow; done = 1; permitted = false }
+    ∷ record { file = graphFollow; done = 3; permitted = false }
+    ∷ record { file = graphFollow; done = 7; permitted = true }
+    ∷ []
+
+-- case A's table behind an empty step in cycle 1
+abbrev tableWaits : List ℕ
+tableWaits = header 3 4 ++ row 1 0 0 0 ++ row 2 0 0 1 ++ row 3 0 1 4 ++ row 3 1 1 2
+
+-- whether its runs, with empty steps permitted, are all complete after so many cycles, and whether their next steps are permitted
+pub record Waiting : Type 0 where
+  pub complete : Bool
+  pub permitted : Bool
+
+unfoldable pub waiting : ℕ → Waiting
+waiting t =
+    let g = content (graphA 1) in
+    let M = idlingOf g in
+    let steps = prescribed (machineOf g) (tableIn g tableWaits) in
+    record {
+      complete = allBelow (M .words) (λ w. M .complete (run M steps t w));
+      permitted = allBelow (M .words) (λ w. let s = run M steps t w in M .complete s || M .legal s (steps (suc t) s));
+    }
+
+unfoldable pub waitings : List (ℕ × Waiting)
+waitings =
+    (0, record { complete = false; permitted = true })
+    ∷ (1, record { complete = false; permitted = true })
+    ∷ (2, record { complete = false; permitted = true })
+    ∷ (3, record { complete = true; permitted = true })
     ∷ []

@@ -1,6 +1,5 @@
 -- `listing::put_listing` meets its contract. An empty buffer tells the length. Assumes nothing.
 use native.Mathlib.Omega.{arith}
-use lib.ListN.{length}
 use borrow.Author.Needs.{needs}
 use Rattle.listing.proofs.PutLaws.{listed-room, listed-short}
 use Rattle.listing.proofs.put_listing.Statement.{statement}
