@@ -83,7 +83,7 @@ module _ (M : Machine) (L : Lawful M) where
       ⊎_elim (λ (e : T (M.same r s)). Memᴰ.head (sym (L.same-eq r s e))) (λ (m : T (holds M rs s)). Memᴰ.tail (holds-mem rs s m))
       (or_cases (M.same r s) (holds M rs s) t)
 
-  pub mem-holds : {l : List M.State} {s : M.State} → Memᴰ s l → T (holds M l s)
+  pub mem-holds : {s : M.State} {l : List M.State} → Memᴰ s l → T (holds M l s)
   unfolding holds
   mem-holds {s = s} (Memᴰ.head {x = r} {xs = rs} e) =
       or_left (M.same r s) (holds M rs s) (subst (λ (q : M.State). T (M.same q s)) e (L.eq-same s))
