@@ -1,4 +1,7 @@
 // Runs document 01's cases that are not marked P: each graph is scheduled with 4,096 slots, and its answer printed.
+
+#![tactic(auto)]
+
 use scheduler::Scheduled;
 
 const OUTPUT: i32 = 1;

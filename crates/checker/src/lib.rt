@@ -1,4 +1,7 @@
 // The checker of table files, and the rows of one cycle.
+
+#![tactic(auto)]
+
 mod rows;
 mod sound;
 
@@ -13,7 +16,7 @@ ghost use Rattle.checker.specs.Checked.{values_of, part_of, Lies};
 use reader::{Fault, Read};
 
 // What the checker answers.
-#[derive(Drop)]
+#[derive(Clone, Copy)]
 pub enum Checked {
     Refused { number: u32, place: usize },
     Accepted { cycles: u32, rows: usize },
@@ -64,7 +67,7 @@ pub fn check(graph: &[u8], table: &[u8]) -> Checked
 }
 
 // Where the rows of one cycle stand in a table: from a byte on, up to and without another.
-#[derive(Drop)]
+#[derive(Clone, Copy)]
 pub struct Span {
     pub start: usize,
     pub end: usize,

@@ -18,7 +18,7 @@ use reader::Fault;
 use steps::State;
 
 // A row's bytes as numbers.
-#[derive(Drop)]
+#[derive(Clone, Copy)]
 pub(crate) struct Row {
     pub cycle: u32,
     pub state: State,

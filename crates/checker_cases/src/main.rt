@@ -1,5 +1,8 @@
 // The checker and the query on tables for each refusal number, on pairs of faults, on tables with stray bits and on accepted
 // ones, among them two that the scheduler would not write. What they answer is held to the file stdout.
+
+#![tactic(auto)]
+
 use checker::Checked;
 use libc::STDOUT_FILENO;
 

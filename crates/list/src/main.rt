@@ -1,5 +1,8 @@
 // Lists the schedule of the graph on standard input: a line with its cycles, rows and reachable states, then a line for each
 // row with cycle, values, done and step; or the refusal.
+
+#![tactic(auto)]
+
 ghost use Rattle.io.specs.Counts.{IsPrefixLen};
 ghost use Rattle.meaning.specs.Listing.{printed};
 ghost use Rattle.listing.specs.Listed.{Listed};

@@ -1,4 +1,7 @@
 // The listing of a scheduler's answer and its table, as text in a lent buffer.
+
+#![tactic(auto)]
+
 ghost use Rattle.std.specs.Prelude.{◌<◌, ◌≤◌, ◌^◌, ◌++◌, length};
 ghost use Rattle.machine.specs.Refusals.{taken, refused};
 ghost use Rattle.meaning.specs.Graph.{Graph, content};

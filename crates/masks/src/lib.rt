@@ -1,5 +1,8 @@
 // Sets as masks: number j is a member when bit j is 1. A set of operations is a `Set`; a set of controls (literals, values, a
 // word) is a u32. Every function takes any input.
+
+#![tactic(auto)]
+
 ghost use Rattle.std.specs.Prelude.{◌≡◌, not, ◌&&◌, ◌||◌, ◌^◌, eqb, ltb};
 ghost use Rattle.machine.specs.Sets.{has, any_below, count_below, first_below, mask_below};
 ghost use Rattle.masks.specs.Width.{set_width};

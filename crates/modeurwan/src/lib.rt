@@ -1,4 +1,7 @@
 // The C interface of the library; include/modeurwan.h declares it. An answer is a number (0 for success), a place and counts.
+
+#![tactic(auto)]
+
 ghost use Rattle.std.specs.Prelude.{◌≡◌};
 ghost use Rattle.meaning.specs.Graph.{graph_of};
 ghost use Rattle.meaning.specs.Answers.{reader, checker, rows_of_cycle};
@@ -15,7 +18,7 @@ const SUCCESS: usize = 0;
 const NONE: usize = 0;
 
 #[repr(C)]
-#[derive(Drop)]
+#[derive(Clone, Copy)]
 pub struct ModeurwanReading {
     pub number: usize,
     pub place: usize,
@@ -26,7 +29,7 @@ pub struct ModeurwanReading {
 }
 
 #[repr(C)]
-#[derive(Drop)]
+#[derive(Clone, Copy)]
 pub struct ModeurwanAnswer {
     pub number: usize,
     pub place: usize,
@@ -36,14 +39,14 @@ pub struct ModeurwanAnswer {
 }
 
 #[repr(C)]
-#[derive(Drop)]
+#[derive(Clone, Copy)]
 pub struct ModeurwanPart {
     pub start: usize,
     pub end: usize,
 }
 
 #[repr(C)]
-#[derive(Drop)]
+#[derive(Clone, Copy)]
 pub struct ModeurwanWriting {
     pub number: usize,
     pub place: usize,

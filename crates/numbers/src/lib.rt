@@ -1,4 +1,7 @@
 // Bytes of a slice, and numbers of two bytes and of up to four, low byte first. A byte beyond the end reads as 0.
+
+#![tactic(auto)]
+
 ghost use Rattle.std.specs.Prelude.{min};
 ghost use Rattle.meaning.specs.Graph.{byte_at, number_at};
 ghost use Rattle.numbers.specs.Reads.{Reads};

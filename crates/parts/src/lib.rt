@@ -1,6 +1,9 @@
 // The parts of a graph file, cut from any bytes; what an edition fixes; and the fields of operations, controls, arcs and rows.
 // No crate above knows a record size or an edition's numbers; only reader and writer know the header. A byte beyond the end of a
 // part reads as 0.
+
+#![tactic(auto)]
+
 ghost use Rattle.std.specs.Prelude.{◌≡◌, suc, min, ◌+◌, ◌*◌, ◌<◌, ◌≤◌};
 ghost use Rattle.std.proofs.Math.Seq.{slice};
 ghost use Rattle.meaning.specs.Graph.{byte_at, known, most_operations, most_classes, most_controls, most_arcs, too_many, operation_bytes, operations_start, controls_start, arcs_start, file_end, content, operation_count, arc_count, limit, class, path, producer, source, target, kind, joins};
@@ -18,21 +21,21 @@ const TABLE_HEADER_BYTES: usize = 8;
 const ARC_BYTES: usize = 5;
 
 // A set of literals: the controls that it names on the true side, and those on the false side.
-#[derive(Drop)]
+#[derive(Clone, Copy)]
 pub struct Literals {
     pub on_true: u32,
     pub on_false: u32,
 }
 
 // An operation's class and path.
-#[derive(Drop)]
+#[derive(Clone, Copy)]
 pub struct Operation {
     pub class: usize,
     pub path: Literals,
 }
 
 // An arc's source and target, its kind (0 plain, 1 follow) and the join sides that it passes.
-#[derive(Drop)]
+#[derive(Clone, Copy)]
 pub struct Arc {
     pub source: usize,
     pub target: usize,
@@ -41,7 +44,7 @@ pub struct Arc {
 }
 
 // What stands in a table's row.
-#[derive(Drop)]
+#[derive(Clone, Copy)]
 pub struct Row {
     pub cycle: u32,
     pub values: u32,
@@ -183,7 +186,7 @@ pub fn edition(file: &[u8]) -> u32
 }
 
 // The counts that the header says. A file that has a whole header is asked at once.
-#[derive(Drop)]
+#[derive(Clone, Copy)]
 struct Counts {
     pub operations: usize,
     pub classes: usize,

@@ -1,4 +1,7 @@
 // The reader of graph files: refusals 1 to 11.
+
+#![tactic(auto)]
+
 mod content;
 mod header;
 mod sets;
@@ -10,14 +13,14 @@ ghost use Rattle.meaning.specs.Answers.{graph_verdict, reader};
 ghost use Rattle.reader.specs.Reading.{entry, verdict_of, values_of};
 
 // What a test over places finds: nothing, or a refusal number with its place.
-#[derive(Drop)]
+#[derive(Clone, Copy)]
 pub enum Fault {
     Passed,
     At { number: u32, place: usize },
 }
 
 // What the reader answers.
-#[derive(Drop)]
+#[derive(Clone, Copy)]
 pub enum Read {
     Refused {
         number: u32,

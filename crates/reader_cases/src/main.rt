@@ -1,5 +1,8 @@
 // The reader on files for each refusal number, on pairs of faults, on the largest file and on the empty input.
 // What it answers is held to the file stdout.
+
+#![tactic(auto)]
+
 use libc::STDOUT_FILENO;
 use reader::Read;
 

@@ -1,4 +1,7 @@
 // The exact scheduler: the shortest table of a graph, in work slots and a table buffer that the caller lends.
+
+#![tactic(auto)]
+
 mod rows;
 mod search;
 mod slots;
@@ -15,7 +18,7 @@ use crate::table::put_header;
 use reader::Read;
 
 // What the scheduler answers.
-#[derive(Drop)]
+#[derive(Clone, Copy)]
 pub enum Scheduled {
     Refused {
         number: u32,
@@ -29,7 +32,7 @@ pub enum Scheduled {
 }
 
 // The rows of a schedule in the buffer, or that they have no room there.
-#[derive(Drop)]
+#[derive(Clone, Copy)]
 enum Filled {
     Short,
     Rows(u32),

@@ -90,7 +90,7 @@ fn place(
 }
 
 // How far a plan has come: the cycles past, the rows so far, and the states of all words.
-#[derive(Drop)]
+#[derive(Clone, Copy)]
 pub(crate) struct Progress {
     pub past: u32,
     pub rows: u32,

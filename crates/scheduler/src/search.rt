@@ -10,7 +10,7 @@ use masks::Set;
 use steps::{Moves, State};
 
 // More reachable states than slots, or the number of a state and how many slots are in use.
-#[derive(Drop)]
+#[derive(Clone, Copy)]
 pub(crate) enum Settled {
     Full,
     Number { number: u32, used: usize },

@@ -6,7 +6,7 @@ ghost use Rattle.scheduler.specs.Slots.{key_of, slot_of, InOrder, Finds, Added};
 use steps::State;
 
 // What a look-up finds: the number that is held with the state, or that the state is not held.
-#[derive(Drop)]
+#[derive(Clone, Copy)]
 pub(crate) enum Found {
     Number(u32),
     Nothing,

@@ -1,5 +1,8 @@
 // What a clock may do in a state, asked once for a state; legal steps in ascending order; what a step leads to, asked once
 // for a step. A graph comes as its file, a state by value.
+
+#![tactic(auto)]
+
 ghost use Rattle.std.specs.Prelude.{◌≡◌, ◌||◌, ℕ, min, ◌<◌};
 ghost use Rattle.machine.specs.Sets.{has};
 ghost use Rattle.meaning.specs.Graph.{Graph, content, limit};
@@ -14,7 +17,7 @@ use masks::Set;
 use parts::{Arc, Literals};
 
 // A state: the operations done and the values resolved.
-#[derive(Drop)]
+#[derive(Clone, Copy)]
 pub struct State {
     pub done: Set,
     pub values: u32,
@@ -58,7 +61,7 @@ pub fn horizon(graph: &[u8]) -> usize
 
 // What a clock may do in a state: how many steps there are, legal or not; the operations not done, those that a dependency
 // holds back, those excluded, and those that a follow arc demands; how many classes there are, their members and limits.
-#[derive(Drop)]
+#[derive(Clone, Copy)]
 pub struct Moves {
     pub steps: Set,
     pub undone: Set,
@@ -71,7 +74,7 @@ pub struct Moves {
 }
 
 // What a step leads to: the controls that it begins, the operations done afterwards, and the values that stay.
-#[derive(Drop)]
+#[derive(Clone, Copy)]
 pub struct Fork {
     pub begun: u32,
     pub done: Set,
@@ -143,7 +146,7 @@ fn demands(arc: Arc, done: Set) -> bool
 }
 
 // What the arcs say of their targets: which are held back, and which are demanded.
-#[derive(Drop)]
+#[derive(Clone, Copy)]
 struct Pulls {
     pub held: Set,
     pub demanded: Set,
@@ -176,7 +179,7 @@ fn join(members: &mut [Set; 8], class: usize, j: usize)
 }
 
 // What the operations say: which are excluded, and the members of each of the first eight classes.
-#[derive(Drop)]
+#[derive(Clone, Copy)]
 struct Sorted {
     pub excluded: Set,
     pub members: [Set; 8],

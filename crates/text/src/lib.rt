@@ -1,4 +1,7 @@
 // Text in a lent buffer: bytes, and numbers in decimal. What has no room in the buffer is left out.
+
+#![tactic(auto)]
+
 ghost use Rattle.std.specs.Prelude.{◌≡◌};
 ghost use Rattle.meaning.specs.Listing.{decimal};
 ghost use Rattle.text.specs.Writing.{laid, Counted};

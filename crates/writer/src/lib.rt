@@ -1,5 +1,8 @@
 // The writer of graph files: an edition and lists, every field one byte, become the one file that holds them, or are refused by
 // 2, 3, 5 to 11 or 14.
+
+#![tactic(auto)]
+
 ghost use Rattle.std.specs.Prelude.{◌≡◌, cond, ◌++◌, ◌+◌, ◌/◌, ◌%◌, ◌^◌, ◌<◌, length};
 ghost use Rattle.machine.specs.Refusals.{taken, refused, judge};
 ghost use Rattle.machine.proofs.Refusals.{otherwise};
@@ -16,7 +19,7 @@ use reader::Fault;
 const HEADER_BYTES: usize = 16;
 
 // What the writer answers.
-#[derive(Drop)]
+#[derive(Clone, Copy)]
 pub enum Written {
     Refused { number: u32, place: usize },
     Done { length: usize },
@@ -76,7 +79,7 @@ fn list_fault(edition: u32, operations: &[u8], limits: &[u8], controls: &[u8], a
 }
 
 // Where the operations, the controls and the arcs stand in the file, and where it ends.
-#[derive(Drop)]
+#[derive(Clone, Copy)]
 struct Starts {
     pub operations: usize,
     pub controls: usize,

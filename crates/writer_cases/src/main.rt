@@ -1,6 +1,9 @@
 // The writer on lists for each refusal number, on pairs of faults, and on outputs of different room. Each line has its answer,
 // after a success the numbers that the reader gives for the file, and the output's bytes where they are few. All is held to the file
 // stdout.
+
+#![tactic(auto)]
+
 use libc::STDOUT_FILENO;
 use reader::Read;
 use writer::Written;
