@@ -1,0 +1,13 @@
+-- `parts::cut` meets its contract. Assumes nothing.
+use borrow.Author.Rules.{rules}
+use Rattle.parts.proofs.PartLaws.{part_within}
+use Rattle.parts.proofs.cut.Goals as goal
+
+pub returns : goal.returns
+returns c =
+    record {
+      holds = part_within c.args.from c.args.to c.smaller-start.result c.smaller-end.result
+          c.args.file.now c.requires c.smaller-start.ensures c.smaller-end.ensures;
+      block = search rules;
+      place = search rules;
+    }
