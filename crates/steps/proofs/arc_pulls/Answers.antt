@@ -1,0 +1,47 @@
+-- `steps::arc_pulls` meets its contract. The loop's invariant: the targets of the arcs before a that hold back or demand are
+-- gathered. Assumes nothing.
+use Prim.Native.Nat.{ℕ, ◌-◌, ◌≤◌}
+use native.Mathlib.Omega.{arith}
+use mathlib.Core.Path.{◌≡◌, ◌∙◌, ap}
+use mathlib.Core.Bool.{◌&&◌}
+use lib.Dec.{eqb}
+use Rattle.masks.proofs.Gather.{spread_start, spread_turn}
+use Rattle.meaning.specs.Graph.{arc_count, target}
+use Rattle.parts.specs.Fields.{OfArcs}
+use Rattle.steps.specs.Moves.{produced, waiting, demanding, targets}
+use borrow.Author.Rules.{rules}
+use Rattle.steps.proofs.arc_pulls.Goals as goal
+
+pub loop-a-init : goal.loop-a-init
+unfolding targets
+loop-a-init c =
+    let s = c.args.s in (
+      omega arith,
+      λ g o e. (
+        spread_start 32 (λ i b. waiting g s.done s.values b && eqb (target g b) i),
+        spread_start 32 (λ i b. demanding g s.done b && eqb (target g b) i),
+      ),
+    )
+
+pub loop-a-preserved : goal.loop-a-preserved
+unfolding targets
+loop-a-preserved c =
+    let s = c.args.s in
+    let l = c.loop-a in (
+      omega arith,
+      λ g o e. let arc = c.arc_at-arc.ensures g o in (
+        spread_turn 32 l.held c.with-held.result c.arc_at-arc.result.target c.waits.result c.with-held.ensures
+            (waiting g s.done s.values) (target g) l.a (l.invariant.1 g o e).0 (c.waits.ensures g l.a arc e) arc.target,
+        spread_turn 32 l.demanded c.with-demanded.result c.arc_at-arc.result.target c.demands.result c.with-demanded.ensures
+            (demanding g s.done) (target g) l.a (l.invariant.1 g o e).1 (c.demands.ensures g l.a arc) arc.target,
+      ),
+    )
+
+pub returns : goal.returns
+returns c g o e =
+    let s = c.args.s in
+    let all : c.loop-a.a ≡ arc_count g = omega (arith, c.arc_count-n.ensures g o) in
+    record {
+      held = (c.loop-a.invariant.1 g o e).0 ∙ ap (λ (k : ℕ). targets g k (waiting g s.done s.values)) all;
+      demanded = (c.loop-a.invariant.1 g o e).1 ∙ ap (λ (k : ℕ). targets g k (demanding g s.done)) all;
+    }
