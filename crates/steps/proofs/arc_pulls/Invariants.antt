@@ -1,15 +1,9 @@
 -- `steps::arc_pulls` meets its contract. The loop's invariant: the targets of the arcs before a that hold back or demand are
 -- gathered. Assumes nothing.
-use Prim.Native.Nat.{ℕ, ◌-◌, ◌≤◌}
-use native.Mathlib.Omega.{arith}
-use mathlib.Core.Path.{◌≡◌, ◌∙◌, ap}
-use mathlib.Core.Bool.{◌&&◌}
-use lib.Dec.{eqb}
-use Rattle.masks.proofs.Gather.{spread_start, spread_turn}
-use Rattle.meaning.specs.Graph.{arc_count, target}
+use Prim.Native.Nat.{◌-◌, ◌≤◌}
+use mathlib.Core.Path.{◌≡◌}
 use Rattle.parts.specs.Fields.{OfArcs}
 use Rattle.steps.specs.Moves.{produced, waiting, demanding, targets}
-use borrow.Author.Rules.{rules}
 use Rattle.steps.proofs.arc_pulls.Given as goal
 
 abbrev pub invariant-loop-a : goal.invariant-loop-a

@@ -1,18 +1,17 @@
 -- `steps::complete` meets its contract. The loop's invariant: the operations before j are done or excluded. Assumes nothing.
 use Prim.Native.Nat.{ℕ, ◌-◌}
-use native.Mathlib.Omega.{arith}
-use mathlib.Core.Path.{◌≡◌, sym, ◌∙◌}
 use mathlib.Core.Bool.{Bool, true, ◌||◌}
 use mathlib.Core.List.{List}
-use borrow.Author.Count.{below_none, below_more}
-use borrow.Author.Tests.{not-true, not-false}
 use Rattle.machine.specs.Sets.{has}
-use Rattle.machine.proofs.Loops.{SoFar, all_broken, all_done}
+use Rattle.machine.proofs.Loops.{SoFar}
 use Rattle.meaning.specs.Graph.{content}
-use Rattle.meaning.specs.Steps.{State, excluded, complete}
+use Rattle.meaning.specs.Steps.{State, excluded}
 use Rattle.steps.specs.States.{state_of}
-use borrow.Author.Rules.{rules}
 use Rattle.steps.proofs.complete.Given as goal
+
+-- operation j is done or excluded
+abbrev pub finished : List ℕ → State → ℕ → Bool
+finished file s j = has s.done j || excluded (content file) s.done s.values j
 
 abbrev pub invariant-loop-j : goal.invariant-loop-j
 invariant-loop-j l = SoFar (finished l.graph (state_of l.s)) true l.j

@@ -2,7 +2,6 @@
 use mathlib.Core.Path.{refl}
 use borrow.Author.Tests.{eq-eqb, ne_eqb}
 use Rattle.steps.specs.Moves.{demanding}
-use borrow.Author.Rules.{rules}
 use Rattle.steps.proofs.demands.Goals as goal
 
 pub returns-then-arc-ne1 : goal.returns-then-arc-ne1

@@ -1,6 +1,5 @@
 -- `steps::first_limits` meets its contract. Assumes nothing.
 use mathlib.Core.Path.{refl}
-use borrow.Author.Rules.{rules}
 use Rattle.steps.proofs.first_limits.Goals as goal
 
 pub returns : goal.returns

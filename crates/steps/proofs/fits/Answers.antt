@@ -1,13 +1,9 @@
 -- `steps::fits` meets its contract. The loop's invariant: the classes before k have room. Assumes nothing.
-use Prim.Native.Nat.{◌-◌}
 use native.Mathlib.Omega.{arith}
 use mathlib.Core.Path.{sym, ◌∙◌}
-use mathlib.Core.Bool.{true}
 use borrow.Author.Count.{below_none, below_more}
-use borrow.Author.Tests.{not-true, not-false}
-use Rattle.machine.proofs.Loops.{SoFar, all_broken, all_done}
-use Rattle.steps.specs.Moves.{roomy, fits}
-use borrow.Author.Rules.{rules}
+use Rattle.machine.proofs.Loops.{all_broken, all_done}
+use Rattle.steps.specs.Moves.{fits}
 use Rattle.steps.proofs.fits.Goals as goal
 
 pub loop-k-init : goal.loop-k-init
@@ -19,10 +15,10 @@ roomy-requires c = omega (arith, c.first_eight-n.ensures)
 pub returns-then-not-roomy : goal.returns-then-not-roomy
 unfolding fits
 returns-then-not-roomy c =
-    sym (all_broken _ _ c.loop-k.k (omega (arith, c.first_eight-n.ensures)) (sym c.roomy.ensures ∙ not-true _ c.if-not-roomy.true))
+    sym (all_broken _ _ c.loop-k.k (omega (arith, c.first_eight-n.ensures)) (sym c.roomy.ensures ∙ c.if-not-roomy.true))
 
 pub loop-k-preserved : goal.loop-k-preserved
-loop-k-preserved c = below_more _ _ c.loop-k.invariant (sym c.roomy.ensures ∙ not-false _ c.if-not-roomy.false)
+loop-k-preserved c = below_more _ _ c.loop-k.invariant (sym c.roomy.ensures ∙ c.if-not-roomy.false)
 
 pub returns : goal.returns
 unfolding fits

@@ -9,7 +9,6 @@ use Rattle.meaning.specs.Graph.{content}
 use Rattle.steps.specs.States.{state_of}
 use Rattle.steps.specs.Forks.{fork_of}
 use Rattle.steps.proofs.After.{done-mask, begun-mask}
-use borrow.Author.Rules.{rules}
 use Rattle.steps.proofs.fork_of.Goals as goal
 
 pub returns : goal.returns

@@ -1,7 +1,6 @@
 -- `steps::horizon` meets its contract. Assumes nothing.
 use mathlib.Core.Path.{sym}
 use Rattle.meaning.specs.Graph.{content}
-use borrow.Author.Rules.{rules}
 use Rattle.steps.proofs.horizon.Goals as goal
 
 pub returns : goal.returns

@@ -1,6 +1,5 @@
 -- `steps::join` meets its contract. Assumes nothing.
 use Rattle.steps.proofs.Eights.{joined_none, joined-class}
-use borrow.Author.Rules.{rules}
 use Rattle.steps.proofs.join.Goals as goal
 
 pub returns-then-class-lt8 : goal.returns-then-class-lt8

@@ -8,7 +8,6 @@ use Rattle.machine.specs.Sets.{mask_below}
 use Rattle.meaning.specs.Graph.{content, class_count, operation_count}
 use Rattle.steps.specs.Moves.{step_count, moves_in}
 use Rattle.steps.proofs.Rules.{undone_mask, held-mask, demanded-mask}
-use borrow.Author.Rules.{rules}
 use Rattle.steps.proofs.moves_in.Goals as goal
 
 pub returns : goal.returns
@@ -33,6 +32,6 @@ returns c =
       demanded = demanded-mask g c.below-all.result all a.s.done a.s.values c.arc_pulls-pulls.result.demanded
           pulled.demanded i;
       classes = (c.first_eight.ensures ∙ ap (λ (n : ℕ). min n 8) (ap length c.limits-limits.ensures.holds)) i;
-      members = sorted.members-1 i;
+      members = sorted.members i;
       limits = c.first_limits.ensures g (sym c.limits-limits.ensures.holds) i;
     }

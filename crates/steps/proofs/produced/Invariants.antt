@@ -1,16 +1,12 @@
 -- `steps::produced` meets its contract. The loop's invariant: the controls before b are gathered. Assumes nothing.
-use Prim.Native.Nat.{ℕ, ◌-◌, ◌≤◌}
-use native.Mathlib.Omega.{arith}
-use mathlib.Core.Path.{◌≡◌, ◌∙◌, ap}
+use Prim.Native.Nat.{◌-◌, ◌≤◌}
+use mathlib.Core.Path.{◌≡◌}
 use mathlib.Core.Bool.{◌&&◌}
 use lib.Dec.{ltb}
 use lib.ListN.{length}
 use Rattle.machine.specs.Sets.{has, mask_below}
-use Rattle.masks.proofs.Gather.{gather_start, gather_turn}
-use Rattle.meaning.specs.Graph.{control_count, producer}
+use Rattle.meaning.specs.Graph.{producer}
 use Rattle.parts.specs.Fields.{OfControls}
-use Rattle.steps.specs.Moves.{produced}
-use borrow.Author.Rules.{rules}
 use Rattle.steps.proofs.produced.Given as goal
 
 abbrev pub invariant-loop-b : goal.invariant-loop-b

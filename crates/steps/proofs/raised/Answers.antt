@@ -3,7 +3,6 @@ use Prim.Native.Nat.{ℕ, ◌+◌, ◌-◌, ◌*◌, ◌^◌, ◌/◌, ◌%◌, 
 use native.Mathlib.Nat.{mod-lt}
 use native.Mathlib.Omega.{arith}
 use mathlib.Core.Path.{◌≡◌, ◌∙◌, ap, ap₂, subst}
-use borrow.Author.Rules.{rules}
 use lib.Bits.{bit_and, bit_or, or_lt, or_shifted, and_mask}
 use lib.Pow.{pow_pos, pow-lt, shl_exact, shr_lt}
 use Rattle.masks.proofs.Bits.{or-one, one_bit}

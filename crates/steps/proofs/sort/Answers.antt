@@ -1,6 +1,6 @@
 -- `steps::sort` meets its contract. The loop's invariant: the operations before j are with their classes, and those of them that are
 -- excluded are gathered. Assumes nothing.
-use Prim.Native.Nat.{ℕ, ◌-◌, ◌≤◌}
+use Prim.Native.Nat.{ℕ}
 use native.Mathlib.Omega.{arith}
 use mathlib.Core.Path.{◌≡◌, refl, sym, ◌∙◌, ap, ap₂, subst}
 use mathlib.Core.Bool.{◌&&◌}
@@ -10,10 +10,8 @@ use Rattle.machine.specs.Sets.{mask_below}
 use Rattle.masks.proofs.Gather.{gather_start, gather_turn}
 use Rattle.meaning.specs.Graph.{graph_of, operation_count}
 use Rattle.meaning.specs.Steps.{lost, excluded}
-use Rattle.parts.specs.Fields.{OfOperations}
-use Rattle.steps.specs.Moves.{among, produced, Sets, joined, of_class}
+use Rattle.steps.specs.Moves.{among, Sets, joined, of_class}
 use Rattle.steps.proofs.Eights.{members_to, members-start, members_sets, members_turn}
-use borrow.Author.Rules.{rules}
 use Rattle.steps.proofs.sort.Goals as goal
 
 pub loop-j-init : goal.loop-j-init
@@ -34,7 +32,7 @@ loop-j-preserved c =
       λ g e o. c.join.ensures
           ∙ ap₂ (λ (m : List ℕ) (k : ℕ). joined m k l.j) (l.invariant.1 g e o) (c.operation_at-operation.ensures g e o).class ∙ members_turn g l.j,
       λ g e o done r. gather_turn 32 l.excluded c.with-excluded.result l.j c.lost.result c.with-excluded.ensures (excluded g done values)
-          (l.invariant.2 g e o done r) (c.lost.ensures g done r ∙ ap (lost g done values) (c.operation_at-operation.ensures g e o).path-1),
+          (l.invariant.2 g e o done r) (c.lost.ensures g done r ∙ ap (lost g done values) (c.operation_at-operation.ensures g e o).path),
     )
 
 pub returns : goal.returns

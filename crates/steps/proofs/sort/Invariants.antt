@@ -1,19 +1,14 @@
 -- `steps::sort` meets its contract. The loop's invariant: the operations before j are with their classes, and those of them that are
 -- excluded are gathered. Assumes nothing.
 use Prim.Native.Nat.{ℕ, ◌-◌, ◌≤◌}
-use native.Mathlib.Omega.{arith}
-use mathlib.Core.Path.{◌≡◌, refl, sym, ◌∙◌, ap, ap₂, subst}
+use mathlib.Core.Path.{◌≡◌}
 use mathlib.Core.Bool.{◌&&◌}
-use mathlib.Core.List.{List, []}
 use lib.Dec.{ltb}
 use Rattle.machine.specs.Sets.{mask_below}
-use Rattle.masks.proofs.Gather.{gather_start, gather_turn}
-use Rattle.meaning.specs.Graph.{graph_of, operation_count}
-use Rattle.meaning.specs.Steps.{lost, excluded}
+use Rattle.meaning.specs.Steps.{excluded}
 use Rattle.parts.specs.Fields.{OfOperations}
-use Rattle.steps.specs.Moves.{among, produced, Sets, joined, of_class}
-use Rattle.steps.proofs.Eights.{members_to, members-start, members_sets, members_turn}
-use borrow.Author.Rules.{rules}
+use Rattle.steps.specs.Moves.{produced}
+use Rattle.steps.proofs.Eights.{members_to}
 use Rattle.steps.proofs.sort.Given as goal
 
 abbrev pub invariant-loop-j : goal.invariant-loop-j

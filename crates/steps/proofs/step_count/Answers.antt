@@ -5,7 +5,6 @@ use Prim.Native.Nat.{◌^◌}
 use borrow.Author.Tests.{lt-ltb, le-ltb}
 use Rattle.masks.proofs.Bits.{one_bit}
 use Rattle.steps.specs.Moves.{step_count}
-use borrow.Author.Rules.{rules}
 use Rattle.steps.proofs.step_count.Goals as goal
 
 pub returns-then-n-lt32 : goal.returns-then-n-lt32

@@ -7,9 +7,8 @@ use mathlib.Core.Path.{sym, ◌∙◌}
 use lib.Bits.{bit_and, and_le_l}
 use Rattle.machine.proofs.Truth.{of_true, of_false}
 use Rattle.steps.specs.Moves.{allows, step_from}
-use Rattle.steps.proofs.Above.{Next, Searched, search_start, search_turn, search_less, search_end, search_found, lowest_member, from_here, from_next, from_none}
+use Rattle.steps.proofs.Above.{Next, search_start, search_turn, search_less, search_end, search_found, lowest_member, from_here, from_next, from_none}
 use Rattle.steps.proofs.Fewer.{allows-below, allows-closed, allows-ready}
-use borrow.Author.Rules.{rules}
 use Rattle.steps.proofs.step_from.Goals as goal
 
 pub returns-then-allows : goal.returns-then-allows
@@ -46,7 +45,7 @@ returns-then-allows-2 c =
     let d : a.m.demanded < 2 ^ 32 = omega arith in
     let next : Next (2 ^ 32) (allows a.m) a.from r.result =
     search_found 32 (allows a.m) a.m.demanded (allows-closed a.m d) a.from l.free c.lowest-j.result r.result
-    c.allows-in-loop-free.result l.invariant (omega arith) c.lowest-j.ensures r.ensures c.allows-in-loop-free.ensures c.if-allows-2.true r.type-inv in
+    c.allows-in-loop-free.result l.invariant (omega arith) c.lowest-j.ensures r.ensures c.allows-in-loop-free.ensures c.if-allows-2.true r.type_inv in
     from_next a.m.steps (allows a.m) a.from (2 ^ 32) r.result (of_false (sym c.allows.ensures ∙ c.if-allows.false)) next
     (allows-below a.m r.result next.holds)
 

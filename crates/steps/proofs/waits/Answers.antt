@@ -2,9 +2,8 @@
 use mathlib.Core.Path.{refl}
 use Rattle.meaning.specs.Steps.{void}
 use Rattle.steps.specs.Moves.{waiting}
-use borrow.Author.Rules.{rules}
 use Rattle.steps.proofs.waits.Goals as goal
 
 pub returns : goal.returns
 unfolding waiting void
-returns c g a o e = rw (c.lost.ensures g c.args.s.done e, o.joins-1, c.has.ensures, o.source) refl
+returns c g a o e = rw (c.lost.ensures g c.args.s.done e, o.joins, c.has.ensures, o.source) refl

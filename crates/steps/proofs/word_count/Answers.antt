@@ -4,7 +4,6 @@ use borrow.Author.Tests.{lt-ltb, le-ltb}
 use Rattle.masks.proofs.Bits.{one_bit}
 use Rattle.meaning.specs.Graph.{control_count}
 use Rattle.steps.specs.Forks.{word_count}
-use borrow.Author.Rules.{rules}
 use Rattle.steps.proofs.word_count.Goals as goal
 
 pub returns-then-controls-lt32 : goal.returns-then-controls-lt32
