@@ -1,6 +1,6 @@
 -- What the two loops of the search keep: the least over the steps tried, and the worst over the words tried of one step.
 -- Assumes nothing.
-use Prim.Native.Nat.{ℕ, suc, min, max, ◌+◌, ◌-◌, ◌^◌, ◌≤◌, ◌<◌, zero-le}
+use Prim.Native.Nat.{ℕ, suc, min, max, ◌+◌, ◌^◌, ◌≤◌, ◌<◌, zero-le}
 use native.Mathlib.Nat.{le_refl, lt_irrefl, lt_of_lt_of_le}
 use native.Mathlib.Numerals.{add-one}
 use native.Mathlib.Omega.{arith}
