@@ -8,11 +8,11 @@ use Rattle.reader.proofs.line.Goals as goal
 
 pub returns-in-0 : goal.returns-in-0
 unfolding line_of content_lines operation_count class_count class
-returns-in-0 c = rw c.in-0.is c.classes.ensures
+returns-in-0 c = rw c.in-0.is (assumption c)
 
 pub returns-in-1 : goal.returns-in-1
 unfolding line_of content_lines operation_count control_count path
-returns-in-1 c = rw c.in-1.is c.paths.ensures
+returns-in-1 c = rw c.in-1.is (assumption c)
 
 pub returns-in-2 : goal.returns-in-2
 unfolding line_of content_lines operation_count control_count producer
