@@ -1,0 +1,9 @@
+-- `checker::rows::last_cycle` meets its contract. Assumes nothing.
+use Rattle.checker.proofs.RowLaws.{last_none, last_some}
+use Rattle.checker.proofs.rows.last_cycle.Goals as goal
+
+pub returns-then-n-eq0 : goal.returns-then-n-eq0
+returns-then-n-eq0 c g of = last_none g _ _ c.row_count-n.ensures.right c.if-n-eq0.true
+
+pub returns : goal.returns
+returns c g of = last_some g _ _ _ c.row_count-n.ensures.right c.if-n-eq0.false (c.row_at.ensures g of).right
