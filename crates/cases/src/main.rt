@@ -3,36 +3,35 @@
 #![tactic(auto)]
 
 use scheduler::Scheduled;
-
-const OUTPUT: i32 = 1;
+use std::io;
 
 // Writes some text, and a number behind it.
-fn put(text: &[u8], number: u64) {
-    io::write_all(OUTPUT, text);
-    io::print_decimal(OUTPUT, number);
+fn put(rt: &impl Print, text: &[u8], number: u64) -> io::Result<()> {
+    rt.write_all(text)?;
+    rt.print(number)
 }
 
 // Schedules a graph and prints its answer behind its name.
-fn run(name: &[u8], graph: &[u8]) {
+fn run(rt: &impl Print, name: &[u8], graph: &[u8]) -> io::Result<()> {
     let mut slots = [0u64; 4096];
     let mut table = [0u8; 3080];
-    io::write_all(OUTPUT, name);
+    rt.write_all(name)?;
     match scheduler::schedule(graph, &mut slots, &mut table) {
         Scheduled::Refused { number, place } => {
-            put(b": refused ", number as u64);
-            put(b" ", place as u64);
+            put(rt, b": refused ", number as u64)?;
+            put(rt, b" ", place as u64)?;
         }
         Scheduled::Done {
             cycles,
             rows,
             states,
         } => {
-            put(b": cycles ", cycles as u64);
-            put(b" rows ", rows as u64);
-            put(b" states ", states as u64);
+            put(rt, b": cycles ", cycles as u64)?;
+            put(rt, b" rows ", rows as u64)?;
+            put(rt, b" states ", states as u64)?;
         }
     }
-    io::write_all(OUTPUT, b"\n");
+    rt.write_all(b"\n")
 }
 
 const J: [u8; 42] = [
@@ -79,16 +78,21 @@ const NO_UNITS: [u8; 20] = [
     72, 83, 1, 1, 1, 0, 0, 0, 16, 0, 17, 0, 20, 0, 20, 0, 0, 0, 0, 0,
 ];
 
-fn main() {
-    run(b"J", &J);
-    run(b"J, class 1 at limit 2", &J_TWO_ADDERS);
-    run(b"J, the first arc without its literal", &J_WITHOUT_LITERAL);
-    run(b"K", &K);
-    run(b"a chain of 24", &CHAIN_OF_24);
-    run(b"25 operations", &OF_25);
-    run(b"class bad at 2, path bad at 0", &CLASS_AND_PATH);
+fn main(rt: HostRuntime) -> io::Result<()> {
+    run(&rt, b"J", &J)?;
+    run(&rt, b"J, class 1 at limit 2", &J_TWO_ADDERS)?;
     run(
+        &rt,
+        b"J, the first arc without its literal",
+        &J_WITHOUT_LITERAL,
+    )?;
+    run(&rt, b"K", &K)?;
+    run(&rt, b"a chain of 24", &CHAIN_OF_24)?;
+    run(&rt, b"25 operations", &OF_25)?;
+    run(&rt, b"class bad at 2, path bad at 0", &CLASS_AND_PATH)?;
+    run(
+        &rt,
         b"an unconditional operation in a class of limit 0",
         &NO_UNITS,
-    );
+    )
 }

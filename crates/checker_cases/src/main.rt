@@ -4,7 +4,7 @@
 #![tactic(auto)]
 
 use checker::Checked;
-use libc::STDOUT_FILENO;
+use std::io;
 
 // Case A: compare 0 decides control 0; add 1 on its true side, add 2 on its false side; both classes have the limit 1.
 const GRAPH: [u8; 28] =
@@ -14,44 +14,44 @@ const GRAPH: [u8; 28] =
 const TABLE: [u8; 32] =
     *b"HT\x01\x02\x03\x00\x08\x00\x01\x00\x00\x00\x00\x01\x00\x00\x02\x00\x01\x00\x00\x04\x00\x00\x02\x01\x01\x00\x00\x02\x00\x00";
 
-fn print(n: usize) {
-    io::write_all(STDOUT_FILENO, b" ");
-    io::print_decimal(STDOUT_FILENO, n as u64);
+fn print(rt: &impl Print, n: usize) -> io::Result<()> {
+    rt.write_all(b" ")?;
+    rt.print(n)
 }
 
-fn print_byte(x: u8) {
-    print(x as usize);
+fn print_byte(rt: &impl Print, x: u8) -> io::Result<()> {
+    print(rt, x as usize)
 }
 
-fn show(graph: &[u8], table: &[u8]) {
+fn show(rt: &impl Print, graph: &[u8], table: &[u8]) -> io::Result<()> {
     match checker::check(graph, table) {
         Checked::Refused { number, place } => {
-            io::write_all(STDOUT_FILENO, b"refused");
-            print(number as usize);
-            print(place);
+            rt.write_all(b"refused")?;
+            print(rt, number as usize)?;
+            print(rt, place)?;
         }
         Checked::Accepted { cycles, rows } => {
-            io::write_all(STDOUT_FILENO, b"accepted");
-            print(cycles as usize);
-            print(rows);
+            rt.write_all(b"accepted")?;
+            print(rt, cycles as usize)?;
+            print(rt, rows)?;
         }
     }
-    io::write_all(STDOUT_FILENO, b"\n");
+    rt.write_all(b"\n")
 }
 
 // Where the rows of one cycle begin and end, and their bytes.
-fn query(graph: &[u8], table: &[u8], cycle: u32) {
+fn query(rt: &impl Print, graph: &[u8], table: &[u8], cycle: u32) -> io::Result<()> {
     let span = checker::span_of(graph, table, cycle);
     let part = checker::rows_of(graph, table, cycle);
-    io::write_all(STDOUT_FILENO, b"part");
-    print(span.start);
-    print(span.end);
+    rt.write_all(b"part")?;
+    print(rt, span.start)?;
+    print(rt, span.end)?;
     let mut i = 0;
     while i < part.len() {
-        print_byte(part[i]);
+        print_byte(rt, part[i])?;
         i += 1;
     }
-    io::write_all(STDOUT_FILENO, b"\n");
+    rt.write_all(b"\n")
 }
 
 fn put(room: &mut [u8; 3088], i: usize, x: u8) {
@@ -68,126 +68,166 @@ fn fill(room: &mut [u8; 3088], from: &[u8]) {
     }
 }
 
-fn show_part(room: &[u8], n: usize) {
+fn show_part(rt: &impl Print, room: &[u8], n: usize) -> io::Result<()> {
     if n <= room.len() {
-        show(&GRAPH, &room[0..n]);
+        show(rt, &GRAPH, &room[0..n])?;
     }
+    Ok(())
 }
 
-fn show_first(room: &[u8; 3088], n: usize) {
-    show_part(room, n);
+fn show_first(rt: &impl Print, room: &[u8; 3088], n: usize) -> io::Result<()> {
+    show_part(rt, room, n)
 }
 
 // The first n bytes of A's table, and zeros past its end, with byte i set to x and byte j to y.
-fn cut(n: usize, i: usize, x: u8, j: usize, y: u8) {
+fn cut(rt: &impl Print, n: usize, i: usize, x: u8, j: usize, y: u8) -> io::Result<()> {
     let mut room = [0u8; 3088];
     fill(&mut room, &TABLE);
     put(&mut room, i, x);
     put(&mut room, j, y);
-    show_first(&room, n);
+    show_first(rt, &room, n)
 }
 
-fn both(i: usize, x: u8, j: usize, y: u8) {
-    cut(32, i, x, j, y);
+fn both(rt: &impl Print, i: usize, x: u8, j: usize, y: u8) -> io::Result<()> {
+    cut(rt, 32, i, x, j, y)
 }
 
-fn one(i: usize, x: u8) {
-    cut(32, i, x, i, x);
+fn one(rt: &impl Print, i: usize, x: u8) -> io::Result<()> {
+    cut(rt, 32, i, x, i, x)
 }
 
-fn first(n: usize) {
-    cut(n, 0, 0x48, 0, 0x48);
+fn first(rt: &impl Print, n: usize) -> io::Result<()> {
+    cut(rt, n, 0, 0x48, 0, 0x48)
 }
 
 // A table for A that is given as it stands.
-fn plain(table: &[u8]) {
-    show(&GRAPH, table);
+fn plain(rt: &impl Print, table: &[u8]) -> io::Result<()> {
+    show(rt, &GRAPH, table)
 }
 
-fn main() {
-    first(32);
-    // accepted too: P6, and a first step that decides nothing, with three cycles
+// Tables that are accepted too: P6, and a first step that decides nothing, with three cycles.
+fn accepted(rt: &impl Print) -> io::Result<()> {
     plain(
+        rt,
         b"HT\x01\x02\x02\x00\x08\x00\x01\x00\x00\x00\x00\x03\x00\x00\x02\x00\x03\x00\x00\x04\x00\x00",
-    );
+    )?;
     plain(
+        rt,
         b"HT\x01\x03\x03\x00\x08\x00\x01\x00\x00\x00\x00\x02\x00\x00\x02\x00\x02\x00\x00\x01\x00\x00\x03\x00\x03\x00\x00\x04\x00\x00",
-    );
-    // 15: too short, mark, edition, offset, length, 385 rows; 384 rows are not too many
-    first(0);
-    first(7);
-    one(0, 0x49);
-    one(1, 0x53);
-    one(2, 2);
-    one(6, 16);
-    one(7, 1);
-    first(31);
-    first(33);
-    one(4, 2);
-    cut(3088, 4, 0x81, 5, 1);
-    cut(3080, 4, 0x80, 5, 1);
+    )
+}
+
+// 15: too short, mark, edition, offset, length, 385 rows; 384 rows are not too many.
+fn layout_refusals(rt: &impl Print) -> io::Result<()> {
+    first(rt, 0)?;
+    first(rt, 7)?;
+    one(rt, 0, 0x49)?;
+    one(rt, 1, 0x53)?;
+    one(rt, 2, 2)?;
+    one(rt, 6, 16)?;
+    one(rt, 7, 1)?;
+    first(rt, 31)?;
+    first(rt, 33)?;
+    one(rt, 4, 2)?;
+    cut(rt, 3088, 4, 0x81, 5, 1)?;
+    cut(rt, 3080, 4, 0x80, 5, 1)
+}
+
+// 16 to 18.
+fn row_refusals(rt: &impl Print) -> io::Result<()> {
     // 16 at rows 2 and 3: by cycle, values, done, and two rows alike
-    one(16, 0);
-    both(24, 1, 25, 0);
-    one(25, 0);
-    both(17, 1, 25, 0);
+    one(rt, 16, 0)?;
+    both(rt, 24, 1, 25, 0)?;
+    one(rt, 25, 0)?;
+    both(rt, 17, 1, 25, 0)?;
     // 17 at rows 1, 2 and 3: no start, cycle 0, no row one cycle earlier, no next state, complete
-    one(8, 0);
-    one(8, 2);
-    one(10, 2);
-    one(18, 3);
-    one(24, 3);
-    one(26, 3);
-    one(26, 7);
+    one(rt, 8, 0)?;
+    one(rt, 8, 2)?;
+    one(rt, 10, 2)?;
+    one(rt, 18, 3)?;
+    one(rt, 24, 3)?;
+    one(rt, 26, 3)?;
+    one(rt, 26, 7)?;
     // 18 at rows 1, 2 and 3: too many, excluded, empty, done already
-    one(13, 6);
-    one(21, 2);
-    one(21, 0);
-    one(29, 4);
-    one(29, 1);
+    one(rt, 13, 6)?;
+    one(rt, 21, 2)?;
+    one(rt, 21, 0)?;
+    one(rt, 29, 4)?;
+    one(rt, 29, 1)
+}
+
+// 19 and 20.
+fn end_refusals(rt: &impl Print) -> io::Result<()> {
     // 19 at the start and at rows 1 and 2
-    cut(8, 4, 0, 3, 0);
-    cut(24, 4, 2, 4, 2);
+    cut(rt, 8, 4, 0, 3, 0)?;
+    cut(rt, 24, 4, 2, 4, 2)?;
     plain(
+        rt,
         b"HT\x01\x02\x02\x00\x08\x00\x01\x00\x00\x00\x00\x02\x00\x00\x02\x00\x02\x00\x00\x01\x00\x00",
-    );
+    )?;
     // 20
-    one(3, 3);
-    one(3, 1);
-    one(3, 0);
-    // stray bits in values, done and step
-    one(9, 0x80);
-    one(25, 3);
-    one(12, 0x80);
-    one(28, 0x80);
-    one(15, 0x80);
-    one(31, 0x80);
-    // pairs: the lower number first, but 17 and 18 row by row
-    cut(33, 16, 0, 16, 0);
-    both(16, 0, 10, 2);
-    both(26, 3, 21, 2);
-    both(10, 2, 13, 6);
-    both(13, 6, 26, 3);
-    both(13, 6, 3, 3);
-    cut(24, 4, 2, 3, 3);
-    // the graph first
-    show(b"", &TABLE);
-    show(&GRAPH, b"");
+    one(rt, 3, 3)?;
+    one(rt, 3, 1)?;
+    one(rt, 3, 0)
+}
+
+// Stray bits in values, done and step.
+fn stray_bits(rt: &impl Print) -> io::Result<()> {
+    one(rt, 9, 0x80)?;
+    one(rt, 25, 3)?;
+    one(rt, 12, 0x80)?;
+    one(rt, 28, 0x80)?;
+    one(rt, 15, 0x80)?;
+    one(rt, 31, 0x80)
+}
+
+// Pairs: the lower number first, but 17 and 18 row by row.
+fn pairs(rt: &impl Print) -> io::Result<()> {
+    cut(rt, 33, 16, 0, 16, 0)?;
+    both(rt, 16, 0, 10, 2)?;
+    both(rt, 26, 3, 21, 2)?;
+    both(rt, 10, 2, 13, 6)?;
+    both(rt, 13, 6, 26, 3)?;
+    both(rt, 13, 6, 3, 3)?;
+    cut(rt, 24, 4, 2, 3, 3)
+}
+
+// The graph first.
+fn graph_first(rt: &impl Print) -> io::Result<()> {
+    show(rt, b"", &TABLE)?;
+    show(rt, &GRAPH, b"")?;
     show(
+        rt,
         b"HS\x01\x01\x01\x00\x00\x00\x10\x00\x11\x00\x14\x00\x14\x00\x01\x01\x00\x00",
         &TABLE,
-    );
+    )?;
     // no operations: the table without rows is accepted
     show(
+        rt,
         b"HS\x01\x00\x00\x00\x00\x00\x10\x00\x10\x00\x10\x00\x10\x00",
         b"HT\x01\x00\x00\x00\x08\x00",
-    );
-    // the rows of a cycle; none for 0, for a cycle above the table's, and where graph or table is refused
-    query(&GRAPH, &TABLE, 1);
-    query(&GRAPH, &TABLE, 2);
-    query(&GRAPH, &TABLE, 0);
-    query(&GRAPH, &TABLE, 3);
-    query(&GRAPH, &TABLE, 0xffff_ffff);
-    query(b"", &TABLE, 1);
-    query(&GRAPH, b"HT\x01\x00\x00\x00\x08\x00", 1);
+    )
+}
+
+// The rows of a cycle; none for 0, for a cycle above the table's, and where graph or table is refused.
+fn queries(rt: &impl Print) -> io::Result<()> {
+    query(rt, &GRAPH, &TABLE, 1)?;
+    query(rt, &GRAPH, &TABLE, 2)?;
+    query(rt, &GRAPH, &TABLE, 0)?;
+    query(rt, &GRAPH, &TABLE, 3)?;
+    query(rt, &GRAPH, &TABLE, 0xffff_ffff)?;
+    query(rt, b"", &TABLE, 1)?;
+    query(rt, &GRAPH, b"HT\x01\x00\x00\x00\x08\x00", 1)
+}
+
+fn main(rt: HostRuntime) -> io::Result<()> {
+    first(&rt, 32)?;
+    accepted(&rt)?;
+    layout_refusals(&rt)?;
+    row_refusals(&rt)?;
+    end_refusals(&rt)?;
+    stray_bits(&rt)?;
+    pairs(&rt)?;
+    graph_first(&rt)?;
+    queries(&rt)
 }

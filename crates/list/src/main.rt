@@ -3,15 +3,12 @@
 
 #![tactic(auto)]
 
-ghost use Rattle.io.specs.Counts.{IsPrefixLen};
+ghost use Rattle.std.specs.Prelude.{◌≡◌, ◌≤◌, length, take, IfOk};
 ghost use Rattle.meaning.specs.Listing.{printed};
 ghost use Rattle.listing.specs.Listed.{Listed};
 
-const INPUT: i32 = 0;
-
-const OUTPUT: i32 = 1;
-
-const ERRORS: i32 = 2;
+use std::io::{self, Read};
+use std::process::ExitCode;
 
 // The listing of a graph, at the front of the text. The work slots and the table buffer are those that document 01 names.
 fn list(
@@ -21,20 +18,38 @@ fn list(
     text: &mut [u8; 32768],
 ) -> usize
     ensures listed { Listed (printed graph.now) text.old text.new result }
-    ensures prefix_len { IsPrefixLen result text.new }
+    ensures prefix_len { result ≤ length text.new }
+    ensures prefix { result ≡ length (take result text.new) }
 {
     let answer = scheduler::schedule(graph, slots, table);
     listing::put_listing(graph, answer, table, text)
 }
 
-fn main() {
+// Reads until the buffer is full or the input ends, and gives how many bytes it put at the front.
+fn read_full<R: Read>(reader: &mut R, buffer: &mut [u8]) -> io::Result<usize>
+    ensures { IfOk result (λ kept. kept ≤ length buffer.new) }
+{
+    let mut kept = 0;
+    while kept < buffer.len() {
+        let count = reader.read(&mut buffer[kept..])?;
+        if count == 0 {
+            break;
+        }
+        kept += count;
+    }
+    Ok(kept)
+}
+
+fn main(rt: HostRuntime) -> io::Result<ExitCode> {
     let mut input = [0u8; 1481];
     let mut slots = [0u64; 4096];
     let mut table = [0u8; 3080];
     let mut text = [0u8; 32768];
-    let kept = io::read_full(INPUT, &mut input);
+    let kept = read_full(&mut rt.reader(), &mut input)?;
     let length = list(&input[..kept], &mut slots, &mut table, &mut text);
-    if !io::write_all(OUTPUT, &text[..length]) {
-        io::write_all(ERRORS, b"list: the listing could not be written\n");
+    if rt.write_all(&text[..length]).is_err() {
+        rt.eprintln("list: the listing could not be written")?;
+        return Ok(ExitCode::FAILURE);
     }
+    Ok(ExitCode::SUCCESS)
 }
