@@ -3,7 +3,7 @@ use Rattle.std.proofs.Common.{length, ◌-◌, ◌≤◌}
 use Rattle.list.proofs.read_full.Given as goal
 
 abbrev pub invariant-loop-kept : goal.invariant-loop-kept
-invariant-loop-kept l = l.kept ≤ length l.buffer
+invariant-loop-kept g l = l.kept ≤ length l.buffer
 
 abbrev pub decreases-loop-kept : goal.decreases-loop-kept
-decreases-loop-kept l = length l.buffer - l.kept
+decreases-loop-kept g l = length l.buffer - l.kept
