@@ -6,4 +6,4 @@ use Rattle.modeurwan.proofs.modeurwan_rows_of.Goals as goal
 
 pub returns : goal.returns
 unfolding part_of part_numbers
-returns c = ap part_numbers c.span_of.ensures
+returns c = ap part_numbers c.span_of-span.ensures
