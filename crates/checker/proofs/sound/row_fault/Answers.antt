@@ -19,7 +19,8 @@ unfolding verdict_of
 returns-then-broken c =
     let p = c.row_in-p.result in
     let against : legal (content c.args.graph.now) (state_of p.state) p.step ≡ false = search rules in
-    sym (row-verdict _ _ _ _ c.row_in-p.ensures.right ∙ rw (← c.unfounded-stray.ensures, c.if-stray.false, against) refl)
+    let follows : c.unfounded-stray.result ≡ false = assumption c in
+    sym (row-verdict _ _ _ _ c.row_in-p.ensures.right ∙ rw (← c.unfounded-stray.ensures, follows, against) refl)
 
 pub returns : goal.returns
 unfolding verdict_of
