@@ -5,33 +5,20 @@
 use scheduler::Scheduled;
 use std::io;
 
-// Writes some text, and a number behind it.
-fn put(rt: &impl Print, text: &[u8], number: u64) -> io::Result<()> {
-    rt.write_all(text)?;
-    rt.print(number)
-}
-
 // Schedules a graph and prints its answer behind its name.
-fn run(rt: &impl Print, name: &[u8], graph: &[u8]) -> io::Result<()> {
+fn run(rt: &impl Print, name: &str, graph: &[u8]) -> io::Result<()> {
     let mut slots = [0u64; 4096];
     let mut table = [0u8; 3080];
-    rt.write_all(name)?;
     match scheduler::schedule(graph, &mut slots, &mut table) {
-        Scheduled::Refused { number, place } => {
-            put(rt, b": refused ", number as u64)?;
-            put(rt, b" ", place as u64)?;
-        }
-        Scheduled::Done {
-            cycles,
-            rows,
-            states,
-        } => {
-            put(rt, b": cycles ", cycles as u64)?;
-            put(rt, b" rows ", rows as u64)?;
-            put(rt, b" states ", states as u64)?;
-        }
+        Ok(
+            Scheduled {
+                cycles,
+                rows,
+                states,
+            },
+        ) => println!(rt; "{name}: cycles {cycles} rows {rows} states {states}"),
+        Err(fault) => println!(rt; "{name}: {fault}"),
     }
-    rt.write_all(b"\n")
 }
 
 const J: [u8; 42] = [
@@ -79,20 +66,20 @@ const NO_UNITS: [u8; 20] = [
 ];
 
 fn main(rt: HostRuntime) -> io::Result<()> {
-    run(&rt, b"J", &J)?;
-    run(&rt, b"J, class 1 at limit 2", &J_TWO_ADDERS)?;
+    run(&rt, "J", &J)?;
+    run(&rt, "J, class 1 at limit 2", &J_TWO_ADDERS)?;
     run(
         &rt,
-        b"J, the first arc without its literal",
+        "J, the first arc without its literal",
         &J_WITHOUT_LITERAL,
     )?;
-    run(&rt, b"K", &K)?;
-    run(&rt, b"a chain of 24", &CHAIN_OF_24)?;
-    run(&rt, b"25 operations", &OF_25)?;
-    run(&rt, b"class bad at 2, path bad at 0", &CLASS_AND_PATH)?;
+    run(&rt, "K", &K)?;
+    run(&rt, "a chain of 24", &CHAIN_OF_24)?;
+    run(&rt, "25 operations", &OF_25)?;
+    run(&rt, "class bad at 2, path bad at 0", &CLASS_AND_PATH)?;
     run(
         &rt,
-        b"an unconditional operation in a class of limit 0",
+        "an unconditional operation in a class of limit 0",
         &NO_UNITS,
     )
 }

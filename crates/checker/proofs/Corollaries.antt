@@ -9,6 +9,7 @@ use mathlib.Core.List.{List, ◌++◌}
 use lib.ListN.{length, drop, length-drop}
 use lib.Seq.{length-take-le}
 use denote.Ref.{Bor}
+use Rattle.std.specs.Prelude.{Result, Ok, Err}
 use Rattle.machine.specs.Refusals.{taken, refused}
 use Rattle.machine.specs.Machine.{remaining}
 use Rattle.machine.specs.Tables.{Sound}
@@ -19,49 +20,53 @@ use Rattle.meaning.specs.TableFile.{cycles_of, rows_of, table_in}
 use Rattle.meaning.specs.Answers.{answer, graph_lines, graph_verdict, table_lines, check_verdict, checker, Part, rows_of_cycle}
 use Rattle.meaning.proofs.Demands.{machine_in, WellLaid, accepted_exactly, accepted_by_clock, accepted-least}
 use Rattle.meaning.proofs.Query.{HoldsCycle, query-rows}
-use Rattle.checker.specs.declared.Checked.{Checked}
-use Rattle.checker.specs.declared.Checked.TheVariants.{Refused, Accepted}
+use Rattle.refusals.specs.declared.Fault.{Fault}
+use Rattle.refusals.specs.Faults.{number_of, verdict_of}
+use Rattle.refusals.proofs.Unique.{faulted_exactly}
+use Rattle.checker.specs.declared.Acceptance.{Acceptance}
 use Rattle.checker.specs.Checked.{values_of, Lies}
-use Rattle.checker.proofs.Verdicts.{refused-answer}
 use Rattle.checker.proofs.Parts.{said_verdict}
 use Rattle.checker.proofs.Unique.{one_answer}
 
-module _ (file table : List ℕ) (r : Checked) (promised : values_of r ≡ checker file table) where
+-- what a table's header says
+abbrev pub header_says : List ℕ → Acceptance
+header_says table = record { cycles = cycles_of table; rows = rows_of table }
+
+module _ (file table : List ℕ) (r : Result Acceptance Fault) (promised : values_of r ≡ checker file table) where
   -- A refusal is given exactly by the refusal table: its line is at fault at that place first, and no earlier line anywhere.
-  pub refuses_exactly : (k p : ℕ) → (r ≡ Refused k p) ↔ Given k p (graph_lines file ++ table_lines (content file) table)
-  unfolding values_of check_verdict
-  refuses_exactly k p = (to, from)
-    where
-      lines : (check_verdict file table ≡ refused k p) ↔ Given k p (graph_lines file ++ table_lines (content file) table)
-      lines = judge-refused (graph_lines file ++ table_lines (content file) table) k p
+  pub refuses_exactly : (k p : ℕ) → (verdict_of r ≡ refused k p) ↔ Given k p (graph_lines file ++ table_lines (content file) table)
+  unfolding check_verdict
+  refuses_exactly k p =
+      let said = said_verdict file table r promised in
+      let lines = judge-refused (graph_lines file ++ table_lines (content file) table) k p in
+      (λ e. lines.0 (sym said ∙ e), λ g. said ∙ lines.1 g)
 
-      to : r ≡ Refused k p → Given k p (graph_lines file ++ table_lines (content file) table)
-      to e = lines.0 (said_verdict file table (Refused k p) (sym (ap values_of e) ∙ promised))
-
-      from : Given k p (graph_lines file ++ table_lines (content file) table) → r ≡ Refused k p
-      from g = one_answer (checker file table) r (Refused k p) promised (refused-answer file table k p (lines.1 g))
+  -- So is each fault, by its number and place.
+  pub faults_exactly : (f : Fault) → (r ≡ Err f) ↔ Given (number_of f.refusal) f.place (graph_lines file ++ table_lines (content file) table)
+  unfolding check_verdict
+  faults_exactly f = faulted_exactly r (graph_lines file ++ table_lines (content file) table) (said_verdict file table r promised) f
 
   -- Accepted, with the cycles and rows that the table's header says, exactly when nothing is at fault.
-  pub accepts_exactly : (r ≡ Accepted (cycles_of table) (rows_of table)) ↔ (check_verdict file table ≡ taken)
-  unfolding values_of checker answer
+  pub accepts_exactly : (r ≡ Ok (header_says table)) ↔ (check_verdict file table ≡ taken)
+  unfolding values_of verdict_of checker answer
   accepts_exactly = (
-    λ e. said_verdict file table (Accepted (cycles_of table) (rows_of table)) (sym (ap values_of e) ∙ promised),
-    λ v. one_answer (checker file table) r (Accepted (cycles_of table) (rows_of table)) promised (rw v refl),
+    λ e. sym (said_verdict file table (Ok (header_says table)) (sym (ap values_of e) ∙ promised)),
+    λ v. one_answer (checker file table) r (Ok (header_says table)) promised (rw v refl),
   )
 
   module _ (ok : graph_verdict file ≡ taken) where
     -- Demand 3: a table that is well laid out and ordered is accepted exactly when it is sound.
     pub sound_exactly : WellLaid file ok table
-        → (r ≡ Accepted (cycles_of table) (rows_of table)) ↔ Sound (machine_in file ok) (table_in (content file) table)
+        → (r ≡ Ok (header_says table)) ↔ Sound (machine_in file ok) (table_in (content file) table)
     sound_exactly laid = Iff.trans accepts_exactly (accepted_exactly file ok table laid)
 
     -- The same clock by clock.
     pub clock_exactly : WellLaid file ok table
-        → (r ≡ Accepted (cycles_of table) (rows_of table)) ↔ SoundByClock (machine_in file ok) (table_in (content file) table)
+        → (r ≡ Ok (header_says table)) ↔ SoundByClock (machine_in file ok) (table_in (content file) table)
     clock_exactly laid = Iff.trans accepts_exactly (accepted_by_clock file ok table laid)
 
     -- No accepted table has fewer cycles than the start's remaining number.
-    pub cycles-least : r ≡ Accepted (cycles_of table) (rows_of table)
+    pub cycles-least : r ≡ Ok (header_says table)
         → remaining (machine_in file ok) (machine_in file ok).start ≤ cycles_of table
     cycles-least e = (accepted-least file ok table (accepts_exactly.0 e)).1
 

@@ -1,3 +1,4 @@
+pub mod Places
 pub mod RowLaws
 pub mod SoundLaws
 pub mod Verdicts

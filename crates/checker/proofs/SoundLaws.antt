@@ -1,29 +1,30 @@
 -- Refusals 17 to 20 by what the code has read: rows by their fields, next states by words. Assumes nothing.
-use Prim.Native.Nat.{ℕ, suc, ◌+◌, ◌^◌, ◌<◌}
+use Prim.Native.Nat.{ℕ, suc, ◌+◌, ◌-◌, ◌^◌, ◌<◌}
 use native.Mathlib.Numerals.{add-one}
 use native.Mathlib.Omega.{arith}
 use mathlib.Core.Path.{◌≡◌, refl, sym, ◌∙◌, ap}
 use mathlib.Core.Bool.{Bool, true, false, cond, not, ◌&&◌, ◌||◌}
 use mathlib.Core.List.{List, [], ◌∷◌}
-use lib.Dec.{eqb}
+use lib.Dec.{eqb, ltb}
 use lib.Pow.{pow_mono}
-use borrow.Author.Tests.{eq-eqb, ne_eqb}
+use borrow.Author.Tests.{lt-ltb, eq-eqb, ne_eqb}
 use Rattle.machine.specs.Sets.{all_below, any_below, list_below}
 use Rattle.machine.specs.Refusals.{Line, placeless, taken, refused, judge}
-use Rattle.machine.specs.Tables.{follows, continues, last_cycle, sound_lines}
+use Rattle.machine.specs.Tables.{follows, continues, last_cycle, order_line, sound_lines}
 use Rattle.machine.proofs.Sets.{any_same, all_same}
-use Rattle.machine.proofs.Refusals.{otherwise, judge-append, placeless-first, two_at}
+use Rattle.machine.proofs.Refusals.{otherwise, judge-append, two_at}
 use Rattle.meaning.specs.Graph.{Graph}
 use Rattle.meaning.specs.Steps.{State, machine_of, complete, legal, after, same}
-use Rattle.meaning.specs.TableFile.{cycles_of, rows_of, table_in}
+use Rattle.meaning.specs.TableFile.{cycles_of, rows_of, layout_line, table_in}
+use Rattle.meaning.specs.Answers.{table_lines}
 use Rattle.meaning.proofs.Taken.{Within, few-controls}
+use Rattle.parts.specs.declared.Row.{Row as Fields}
+use Rattle.parts.specs.declared.State.{State as Held}
+use Rattle.parts.specs.Fields.{state_of, row_of}
 use Rattle.steps.specs.declared.Fork.{Fork}
-use Rattle.steps.specs.declared.State.{State as Held}
-use Rattle.steps.specs.States.{state_of}
 use Rattle.steps.specs.Forks.{word_count, fork_of, fallen}
 use Rattle.steps.proofs.After.{fallen-after, words-all}
-use Rattle.checker.specs.declared.rows.Row.{Row as Fields}
-use Rattle.checker.specs.Rows.{row_of, Holds, came_from, covered, unfounded, row_lines, gap_line}
+use Rattle.checker.specs.Rows.{Holds, came_from, covered, unfounded, row_lines, gap_line}
 
 -- What a row leads to on the words, by its fork.
 module _ (g : Graph) (small : Within g) (r : Fields) (narrow : r.state.values < 2 ^ 32) {fork : Fork}
@@ -87,31 +88,43 @@ module _ (g : Graph) (table : List ℕ) (i : ℕ) where
     unfolding unfounded row_of
     founded b e = rw (← at, ← e) refl
 
-    pub row-verdict : judge (row_lines g table i)
-        ≡ cond (unfounded g table i) (refused 17 (i + 1)) (cond (not (legal g (state_of p.state) p.step)) (refused 18 (i + 1)) taken)
-    unfolding row_lines row_of
-    row-verdict = two_at 17 18 (suc i) _ _ ∙ rw (← at, add-one i) refl
+  pub row-verdict : let p = (table_in g table).row (suc i) in
+      judge (row_lines g table i) ≡ cond (unfounded g table i) (refused 17 (i + 1)) (cond (not (legal g p.state p.step)) (refused 18 (i + 1)) taken)
+  unfolding row_lines
+  row-verdict = two_at 17 18 (suc i) _ _ ∙ rw (add-one i) refl
 
-  -- refusal 19 of row i + 1
-  pub gap-fault : (b : Bool) → b ≡ continues (machine_of g) (table_in g table) (suc i) → (gap_line g table).fault (suc i) ≡ not b
+-- refusal 19 of the row at a place, and of the start
+module _ (g : Graph) (table : List ℕ) where
+  pub gap-row : (p : ℕ) (b : Bool) → (p ≡ 0 → ⊥) → p < 2 ^ 32 → b ≡ continues (machine_of g) (table_in g table) (suc (p - 1))
+      → not b ≡ (ltb p (2 ^ 32) && (gap_line g table).fault p)
   unfolding gap_line
-  gap-fault b e = rw (ne_eqb (suc i) 0 (λ z. omega arith), ← e) refl
+  gap-row p b h k e =
+      let i : suc (p - 1) ≡ p = omega arith in
+      rw (lt-ltb p (2 ^ 32) k, ne_eqb p 0 h) (ap not (e ∙ ap (continues (machine_of g) (table_in g table)) i))
 
--- refusal 19 of the start
-pub gap-start : (g : Graph) (table : List ℕ) (s : Held) (b : Bool) → ((h : Graph) → state_of s ≡ (machine_of h).start)
-    → b ≡ covered g table 1 (state_of s) → (gap_line g table).fault 0 ≡ not b
-unfolding gap_line
-gap-start g table s b at e = rw (← at g) (ap not (sym e))
+  pub gap-start : (p : ℕ) (s : Held) (b : Bool) → p ≡ 0 → ((h : Graph) → state_of s ≡ (machine_of h).start)
+      → b ≡ covered g table 1 (state_of s) → not b ≡ (ltb p (2 ^ 32) && (gap_line g table).fault p)
+  unfolding gap_line
+  gap-start p s b h at e = rw h (ap not (e ∙ ap (covered g table 1) (at g)))
 
--- Refusals 17 to 20 in order.
-pub sound_verdict : (g : Graph) (table : List ℕ) → judge (sound_lines (machine_of g) (table_in g table))
-    ≡ otherwise (judge (list_below (rows_of table) (row_lines g table))) (otherwise (judge (gap_line g table ∷ []))
-    (cond (not (eqb (cycles_of table) (last_cycle (machine_of g) (table_in g table)))) (refused 20 0) taken))
-unfolding sound_lines row_lines unfounded gap_line covered table_in judge
-sound_verdict g table =
-    judge-append (list_below (rows_of table) (row_lines g table)) (gap_line g table ∷ last ∷ [])
-    ∙ ap (otherwise (judge (list_below (rows_of table) (row_lines g table))))
-    (judge-append (gap_line g table ∷ []) (last ∷ []) ∙ ap (otherwise (judge (gap_line g table ∷ []))) (placeless-first 20 _ []))
-  where
-    last : Line
-    last = placeless 20 (not (eqb (cycles_of table) (last_cycle (machine_of g) (table_in g table))))
+-- Refusals 17 to 20, and 15 to 20, in order.
+module _ (g : Graph) (table : List ℕ) where
+  unfoldable pub cycles_line : Line
+  cycles_line = placeless 20 (not (eqb (cycles_of table) (last_cycle (machine_of g) (table_in g table))))
+
+  pub sound_verdict : judge (sound_lines (machine_of g) (table_in g table))
+      ≡ otherwise (judge (list_below (rows_of table) (row_lines g table))) (otherwise (judge (gap_line g table ∷ [])) (judge (cycles_line ∷ [])))
+  unfolding sound_lines row_lines unfounded gap_line covered table_in judge cycles_line
+  sound_verdict =
+      judge-append (list_below (rows_of table) (row_lines g table)) (gap_line g table ∷ cycles_line ∷ [])
+      ∙ ap (otherwise (judge (list_below (rows_of table) (row_lines g table)))) (judge-append (gap_line g table ∷ []) (cycles_line ∷ []))
+
+  pub table-verdict : judge (table_lines g table)
+      ≡ otherwise (judge (layout_line g.edition table ∷ []))
+      (otherwise (judge (order_line (machine_of g) (table_in g table) ∷ [])) (judge (sound_lines (machine_of g) (table_in g table))))
+  unfolding table_lines
+  table-verdict =
+      let order = order_line (machine_of g) (table_in g table) in
+      let sound = sound_lines (machine_of g) (table_in g table) in
+      judge-append (layout_line g.edition table ∷ []) (order ∷ sound)
+      ∙ ap (otherwise (judge (layout_line g.edition table ∷ []))) (judge-append (order ∷ []) sound)

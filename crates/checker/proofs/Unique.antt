@@ -5,24 +5,27 @@ use native.Mathlib.Omega.{arith}
 use mathlib.Core.Path.{◌≡◌, refl, sym, ◌∙◌, ap, ap₂}
 use mathlib.Core.List.{List}
 use denote.Ref.{Bor}
+use Rattle.std.specs.Prelude.{Result, Ok, Err}
 use Rattle.machine.specs.Refusals.{Verdict, taken, refused}
 use Rattle.meaning.specs.Answers.{Answer, Part}
-use Rattle.checker.specs.declared.Checked.{Checked}
-use Rattle.checker.specs.declared.Checked.TheVariants.{Refused, Accepted}
+use Rattle.refusals.specs.declared.Fault.{Fault}
+use Rattle.refusals.specs.Faults.{fault_verdict}
+use Rattle.refusals.proofs.Unique.{fault_of, fault_back}
+use Rattle.checker.specs.declared.Acceptance.{Acceptance}
 use Rattle.checker.specs.declared.Span.{Span}
 use Rattle.checker.specs.Checked.{values_of, part_of, Lies}
 
 -- the answer that has the values
-checked_of : Verdict → Answer → Checked
-checked_of taken v = Accepted v.cycles v.rows
-checked_of (refused k p) v = Refused k p
+checked_of : Verdict → Answer → Result Acceptance Fault
+checked_of taken v = Ok (record { cycles = v.cycles; rows = v.rows })
+checked_of (refused k p) v = Err (fault_of (refused k p))
 
-checked_back : (a : Checked) → checked_of (values_of a).verdict (values_of a) ≡ a
-unfolding checked_of values_of
-checked_back (Refused k p) = refl
-checked_back (Accepted c n) = refl
+checked_back : (a : Result Acceptance Fault) → checked_of (values_of a).verdict (values_of a) ≡ a
+unfolding checked_of values_of fault_verdict
+checked_back (Ok accepted) = refl
+checked_back (Err f) = ap (λ (g : Fault). Err g) (fault_back f)
 
-pub one_answer : (v : Answer) (a b : Checked) → values_of a ≡ v → values_of b ≡ v → a ≡ b
+pub one_answer : (v : Answer) (a b : Result Acceptance Fault) → values_of a ≡ v → values_of b ≡ v → a ≡ b
 one_answer v a b p q =
     sym (checked_back a) ∙ ap (λ (u : Answer). checked_of u.verdict u) (p ∙ sym q) ∙ checked_back b
 

@@ -1,16 +1,17 @@
 -- What the checker's answer says, and where the query's part lies.
-use Rattle.std.specs.Prelude.{ℕ, ◌+◌, ◌-◌, ◌≡◌, List, take, drop}
+use Rattle.std.specs.Prelude.{ℕ, ◌+◌, ◌-◌, ◌≡◌, List, take, drop, Result, Ok, Err}
 use Rattle.std.specs.Borrow.{Bor}
-use Rattle.machine.specs.Refusals.{taken, refused}
+use Rattle.machine.specs.Refusals.{taken}
 use Rattle.meaning.specs.Answers.{Answer, Part}
-use Rattle.checker.specs.declared.Checked.{Checked}
-use Rattle.checker.specs.declared.Checked.TheVariants.{Refused, Accepted}
+use Rattle.refusals.specs.declared.Fault.{Fault}
+use Rattle.refusals.specs.Faults.{fault_verdict}
+use Rattle.checker.specs.declared.Acceptance.{Acceptance}
 use Rattle.checker.specs.declared.Span.{Span}
 
 -- the verdict and the values of the checker's answer
-unfoldable pub values_of : Checked → Answer
-values_of (Refused number place) = record { verdict = refused number place; cycles = 0; rows = 0; states = 0 }
-values_of (Accepted cycles rows) = record { verdict = taken; cycles = cycles; rows = rows; states = 0 }
+unfoldable pub values_of : Result Acceptance Fault → Answer
+values_of (Err fault) = record { verdict = fault_verdict fault; cycles = 0; rows = 0; states = 0 }
+values_of (Ok accepted) = record { verdict = taken; cycles = accepted.cycles; rows = accepted.rows; states = 0 }
 
 -- the part of a span
 unfoldable pub part_of : Span → Part

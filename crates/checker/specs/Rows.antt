@@ -1,27 +1,17 @@
 -- Rows of a table file as the code reads them, and refusals 17 to 19 piece by piece.
-use Rattle.std.specs.Prelude.{ℕ, suc, ◌<◌, ◌≡◌, Bool, cond, not, ◌&&◌, ◌||◌, List, [], ◌∷◌, eqb}
+use Rattle.std.specs.Prelude.{ℕ, suc, ◌≡◌, Bool, cond, not, ◌&&◌, ◌||◌, List, [], ◌∷◌, eqb}
 use Rattle.machine.specs.Sets.{any_below}
 use Rattle.machine.specs.Refusals.{Line, line, line_at}
 use Rattle.machine.specs.Tables.{Row, has_row, follows, continues}
 use Rattle.meaning.specs.Graph.{Graph}
 use Rattle.meaning.specs.Steps.{State, machine_of, complete, legal, after, same}
 use Rattle.meaning.specs.TableFile.{rows_of, table_in}
-use Rattle.steps.specs.States.{state_of}
-use Rattle.checker.specs.declared.rows.Row.{Row as Fields}
-
--- the row that the fields hold
-unfoldable pub row_of : (g : Graph) → Fields → Row (machine_of g)
-row_of g r = record { cycle = r.cycle; state = state_of r.state; step = r.step }
+use Rattle.parts.specs.declared.Row.{Row as Fields}
+use Rattle.parts.specs.Fields.{row_of}
 
 -- the fields hold row p of a graph's table
 abbrev pub Holds : Graph → List ℕ → ℕ → Fields → Type 0
 Holds g table p r = row_of g r ≡ (table_in g table).row p
-
--- they do, and cycle and values are bytes
-pub record RowAt (g : Graph) (table : List ℕ) (p : ℕ) (r : Fields) : Type 0 where
-  pub right : Holds g table p r
-  pub cycle-small : r.cycle < 256
-  pub values-small : r.state.values < 256
 
 -- row q, one cycle earlier, leads on some word to the state of row p
 unfoldable pub came_from : (g : Graph) → List ℕ → ℕ → Row (machine_of g) → Bool

@@ -1,94 +1,69 @@
-// The checker of table files, and the rows of one cycle.
+// The checker of table files, and the rows of one cycle. The C interface lends a graph and a table apart, so the public functions
+// take both as bytes. `as usize` on a u32: usize has no From<u32>.
 
 #![tactic(auto)]
 
+mod claim;
 mod rows;
 mod sound;
 
 ghost use Rattle.std.specs.Prelude.{◌≡◌};
-ghost use Rattle.machine.specs.Refusals.{judge};
-ghost use Rattle.meaning.specs.Graph.{content};
-ghost use Rattle.meaning.specs.Answers.{table_lines, checker, rows_of_cycle};
-ghost use Rattle.meaning.proofs.Taken.{Within};
-ghost use Rattle.reader.specs.Reading.{verdict_of};
+ghost use Rattle.meaning.specs.Answers.{checker, rows_of_cycle};
 ghost use Rattle.checker.specs.Checked.{values_of, part_of, Lies};
 
-use reader::{Fault, Read};
+use claim::Claim;
+use parts::Table;
+use refusals::Fault;
 
-// What the checker answers.
-#[derive(Clone, Copy)]
-pub enum Checked {
-    Refused { number: u32, place: usize },
-    Accepted { cycles: u32, rows: usize },
-}
-
-// Refusals 15 to 20, for a graph within its edition's maxima.
-fn table_fault(graph: &[u8], table: &[u8]) -> Fault
-    requires { Within (content graph.now) }
-    ensures { verdict_of result ≡ judge (table_lines (content graph.now) table.now) }
-{
-    let edition = parts::edition(graph);
-    if rows::misshapen(edition, table) {
-        return Fault::At {
-            number: 15,
-            place: 0,
-        };
-    }
-    let fault = rows::disorder(edition, table);
-    if let Fault::At {
-        number: _,
-        place: _,
-    } = fault
-    {
-        return fault;
-    }
-    sound::unsound(graph, table)
+// What the checker answers of a table that it accepts.
+#[derive(Clone, Copy, PartialEq, Eq)]
+pub struct Acceptance {
+    pub cycles: u32,
+    pub rows: usize,
 }
 
 // A table file is accepted for a graph file, with its cycles and rows, or one of them is refused with a number and a place.
-pub fn check(graph: &[u8], table: &[u8]) -> Checked
+pub fn check(graph: &[u8], table: &[u8]) -> Result<Acceptance, Fault>
     ensures { values_of result ≡ checker graph.now table.now }
 {
-    match reader::read_graph(graph) {
-        Read::Refused { number, place } => Checked::Refused { number, place },
-        Read::Taken {
-            operations: _,
-            classes: _,
-            controls: _,
-            arcs: _,
-        } => match table_fault(graph, table) {
-            Fault::At { number, place } => Checked::Refused { number, place },
-            Fault::Passed => Checked::Accepted {
-                cycles: rows::cycles(table),
-                rows: parts::row_count(table) as usize,
-            },
-        },
-    }
+    let taken = reader::take(graph)?;
+    let table = Table {
+        edition: taken.graph.edition,
+        bytes: table,
+    };
+    Claim { taken, table }.judge()?;
+    Ok(Acceptance {
+        cycles: rows::cycles(&table),
+        rows: table.row_count() as usize,
+    })
 }
 
 // Where the rows of one cycle stand in a table: from a byte on, up to and without another.
-#[derive(Clone, Copy)]
+#[derive(Clone, Copy, PartialEq, Eq)]
 pub struct Span {
     pub start: usize,
     pub end: usize,
 }
 
 // The span of the rows of one cycle. Where graph or table is refused, the empty one at the table's front; where the cycle is
-// 0 or above the table's, the empty one at its end.
+// 0 or above the table's, the empty one at its end. No Option: `span_of`'s promise `rows_of_cycle` needs both.
 pub fn span_of(graph: &[u8], table: &[u8], cycle: u32) -> Span
     ensures { part_of result ≡ rows_of_cycle graph.now table.now cycle }
 {
-    let Checked::Accepted { cycles, rows: _ } = check(graph, table) else {
+    let Ok(accepted) = check(graph, table) else {
         return Span { start: 0, end: 0 };
     };
     let end = table.len();
-    if (cycle == 0) | (cycles < cycle) {
+    if (cycle == 0) | (accepted.cycles < cycle) {
         return Span { start: end, end };
     }
-    let edition = parts::edition(graph);
+    let table = Table {
+        edition: parts::edition(graph),
+        bytes: table,
+    };
     Span {
-        start: rows::cycle_start(edition, table, cycle),
-        end: rows::cycle_start(edition, table, cycle + 1),
+        start: rows::cycle_start(&table, cycle),
+        end: rows::cycle_start(&table, cycle + 1),
     }
 }
 
@@ -97,7 +72,5 @@ pub fn rows_of<'a>(graph: &[u8], table: &'a [u8], cycle: u32) -> &'a [u8]
     ensures { Lies (rows_of_cycle graph.now table.now cycle) table.entry result }
 {
     let span = span_of(graph, table, cycle);
-    let start = span.start;
-    let end = span.end;
-    &table[start..end]
+    &table[span.start..span.end]
 }

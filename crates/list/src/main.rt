@@ -21,11 +21,13 @@ fn list(
     ensures prefix_len { result ≤ length text.new }
     ensures prefix { result ≡ length (take result text.new) }
 {
-    let answer = scheduler::schedule(graph, slots, table);
+    let scheduled = scheduler::schedule(graph, slots, table);
+    let answer = scheduled.map_err(|fault| (fault.refusal.number(), fault.place));
     listing::put_listing(graph, answer, table, text)
 }
 
-// Reads until the buffer is full or the input ends, and gives how many bytes it put at the front.
+// Reads until the buffer is full or the input ends, and gives how many bytes it put at the front. std's methods that read so
+// ask for a heap.
 fn read_full<R: Read>(reader: &mut R, buffer: &mut [u8]) -> io::Result<usize>
     ensures { IfOk result (λ kept. kept ≤ length buffer.new) }
 {

@@ -2,7 +2,7 @@
 use Prim.Native.Nat.{ℕ, suc, ◌+◌, ◌*◌}
 use native.Mathlib.Numerals.{add-one}
 use native.Mathlib.Omega.{arith}
-use mathlib.Core.Path.{◌≡◌, sym, ◌∙◌, ap, subst}
+use mathlib.Core.Path.{◌≡◌, refl, sym, ◌∙◌, ap, subst}
 use mathlib.Core.List.{List, ◌++◌}
 use Rattle.machine.specs.Sets.{list_below}
 use Rattle.machine.specs.Tables.{Row}
@@ -11,40 +11,34 @@ use Rattle.meaning.specs.Steps.{machine_of}
 use Rattle.meaning.specs.TableFile.{table_in}
 use Rattle.meaning.specs.Listing.{row_line}
 use Rattle.parts.specs.declared.Row.{Row as Fields}
-use Rattle.parts.specs.Fields.{IsRow}
+use Rattle.parts.specs.Fields.{IsRow, row_of}
+use Rattle.parts.proofs.PartLaws.{row_is}
 use Rattle.text.proofs.WriteLaws.{laid_none}
-use Rattle.listing.specs.Listed.{Put, row_of}
-use Rattle.listing.proofs.PutLaws.{put_then}
+use Rattle.listing.specs.Listed.{Adds}
+use Rattle.listing.specs.declared.Page.{Page}
+use Rattle.listing.proofs.PutLaws.{adds_then, adds_few}
 
 -- the lines of the first n rows
 abbrev pub lines_below : Graph → List ℕ → ℕ → List ℕ
 lines_below g table n = list_below n (λ i. row_line g ((table_in g table).row (suc i)))
 
 module _ (g : Graph) (table : List ℕ) where
-  row_is : (p : ℕ) (r : Fields) → IsRow g table p r → row_of g r ≡ (table_in g table).row p
-  unfolding row_of
-  row_is p r is = λ i.
+  pub none_put : (page : Page) → Adds (113 * 0) page (lines_below g table 0) page
+  unfolding list_below
+  none_put page =
       record {
-        cycle = is.cycle i;
-        state = record { done = is.done i; values = is.values i };
-        step = is.step i;
+        same = refl;
+        put = record { writes = sym (laid_none page.out.now page.end); ends = omega arith; near = omega arith };
       }
 
-  pub none_put : (before : List ℕ) (at : ℕ) → Put (113 * 0) before at (lines_below g table 0) before at
-  unfolding list_below
-  none_put before at =
-      record { writes = sym (laid_none before at); ends = omega arith; near = omega arith }
-
   -- one row more
-  pub more_put : {before : List ℕ} {at : ℕ} {middle : List ℕ} {end : ℕ} {after : List ℕ} {s : ℕ} (n : ℕ) (r : Fields)
-      → Put (113 * n) before at (lines_below g table n) middle end → IsRow g table (suc n) r
-      → Put 113 middle end (row_line g (row_of g r)) after s → Put (113 * (n + 1)) before at (lines_below g table (n + 1)) after s
-  more_put {before = before} {at = at} {after = after} {s = s} n r p is q =
-      let whole = put_then p q in
-      subst (λ (text : List ℕ). Put (113 * (n + 1)) before at text after s) text-is
-      (record { writes = whole.writes; ends = whole.ends; near = omega (arith, whole.near) })
+  pub more_put : {before middle after : Page} (n : ℕ) (r : Fields) → Adds (113 * n) before (lines_below g table n) middle
+      → IsRow g table (suc n) r → Adds 113 middle (row_line g (row_of g r)) after
+      → Adds (113 * (n + 1)) before (lines_below g table (n + 1)) after
+  more_put {before = before} {after = after} n r p is q =
+      subst (λ (text : List ℕ). Adds (113 * (n + 1)) before text after) text-is (adds_few (omega arith) (adds_then p q))
     where
       text-is : lines_below g table n ++ row_line g (row_of g r) ≡ lines_below g table (n + 1)
       text-is =
-          ap (λ (row : Row (machine_of g)). lines_below g table n ++ row_line g row) (row_is (suc n) r is)
+          ap (λ (row : Row (machine_of g)). lines_below g table n ++ row_line g row) (row_is g table (suc n) r is)
           ∙ unfold list_below in ap (lines_below g table) (sym (add-one n))

@@ -14,42 +14,42 @@ pub type Set = u32;
 pub fn has(m: Set, j: usize) -> bool
     ensures { result ≡ has m j }
 {
-    if j < 32 { m >> j & 1 == 1 } else { false }
+    j < 32 && m >> j & 1 == 1
 }
 
 // The set m, and j with it where `on` holds; nothing at or above the width can join.
 pub fn with(m: Set, j: usize, on: bool) -> Set
     ensures { result ≡ mask_below set_width (λ i. has m i || (on && eqb j i)) }
 {
-    if j < 32 { m | (on as Set) << j } else { m }
+    if j < 32 { m | Set::from(on) << j } else { m }
 }
 
 // The set of all numbers below n, as far as the width.
 pub fn below(n: usize) -> Set
     ensures { result ≡ mask_below set_width (λ j. ltb j n) }
 {
-    if n < 32 { (1 << n) - 1 } else { 0xffff_ffff }
+    if n < 32 { (1 << n) - 1 } else { Set::MAX }
 }
 
 // How many members the set m has.
 pub fn count(m: Set) -> u32
     ensures { result ≡ count_below set_width (has m) }
 {
-    u32::count_ones(m)
+    m.count_ones()
 }
 
-// The lowest member of the set m, and the width where it has none.
+// The lowest member of the set m, and the width where it has none. No Option: `lowest`'s promise `first_below` needs the width.
 pub fn lowest(m: Set) -> u32
     ensures { result ≡ first_below set_width (has m) }
 {
-    u32::trailing_zeros(m)
+    m.trailing_zeros()
 }
 
 // Every member of m is below n.
 pub fn fits(m: u32, n: usize) -> bool
     ensures { result ≡ ltb m (2 ^ n) }
 {
-    if n < 32 { m >> n == 0 } else { true }
+    32 <= n || m >> n == 0
 }
 
 // A number below n is a member of both sets.

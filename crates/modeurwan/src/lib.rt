@@ -2,17 +2,20 @@
 
 #![tactic(auto)]
 
-ghost use Rattle.std.specs.Prelude.{◌≡◌};
+ghost use Rattle.std.specs.Prelude.{◌≡◌, Err};
 ghost use Rattle.meaning.specs.Graph.{graph_of};
 ghost use Rattle.meaning.specs.Answers.{reader, checker, rows_of_cycle};
-ghost use Rattle.modeurwan.specs.Numbers.{reading_numbers, answer_numbers, Schedules, part_numbers, Writes};
+ghost use Rattle.checker.specs.Checked.{values_of as checking_of};
+ghost use Rattle.reader.specs.Reading.{values_of as reading_of};
+ghost use Rattle.refusals.specs.Faults.{fault_verdict};
+ghost use Rattle.writer.specs.Promise.{values_of as writing_of};
+ghost use Rattle.modeurwan.specs.Numbers.{number_of, place_of, reading_numbers, answer_numbers, Schedules, part_numbers, writing_numbers, Writes};
 
-use checker::Checked;
-use reader::Read;
-use scheduler::Scheduled;
-use writer::Written;
+use parts::Graph;
+use refusals::Fault;
 
-// The number of a success, and a count or a place that there is not.
+// The number of a success, and a count or a place that there is not. The C interface needs numbers for both, a struct for each kind
+// of answer, and a usize for a u32, which is no From.
 const SUCCESS: usize = 0;
 
 const NONE: usize = 0;
@@ -53,32 +56,71 @@ pub struct ModeurwanWriting {
     pub length: usize,
 }
 
+// The number and the place of a fault.
+fn numbers(fault: Fault) -> (usize, usize)
+    ensures { result ≡ (number_of (fault_verdict fault), place_of (fault_verdict fault)) }
+{
+    (fault.refusal.number() as usize, fault.place)
+}
+
+impl From<Fault> for ModeurwanReading {
+    ghost from_gives = { λ fault r. r ≡ reading_numbers (reading_of (Err fault)) };
+
+    fn from(fault: Fault) -> ModeurwanReading {
+        let (number, place) = numbers(fault);
+        ModeurwanReading {
+            number,
+            place,
+            operations: NONE,
+            classes: NONE,
+            controls: NONE,
+            arcs: NONE,
+        }
+    }
+}
+
+impl From<Fault> for ModeurwanAnswer {
+    ghost from_gives = { λ fault r. r ≡ answer_numbers (checking_of (Err fault)) };
+
+    fn from(fault: Fault) -> ModeurwanAnswer {
+        let (number, place) = numbers(fault);
+        ModeurwanAnswer {
+            number,
+            place,
+            cycles: NONE,
+            rows: NONE,
+            states: NONE,
+        }
+    }
+}
+
+impl From<Fault> for ModeurwanWriting {
+    ghost from_gives = { λ fault r. r ≡ writing_numbers (writing_of (Err fault)) };
+
+    fn from(fault: Fault) -> ModeurwanWriting {
+        let (number, place) = numbers(fault);
+        ModeurwanWriting {
+            number,
+            place,
+            length: NONE,
+        }
+    }
+}
+
 // Reads a graph file.
 #[unsafe(no_mangle)]
 pub extern "C" fn modeurwan_read(graph: &[u8]) -> ModeurwanReading
     ensures { result ≡ reading_numbers (reader graph.now) }
 {
     match reader::read_graph(graph) {
-        Read::Refused { number, place } => ModeurwanReading {
-            number: number as usize,
-            place,
-            operations: NONE,
-            classes: NONE,
-            controls: NONE,
-            arcs: NONE,
-        },
-        Read::Taken {
-            operations,
-            classes,
-            controls,
-            arcs,
-        } => ModeurwanReading {
+        Err(fault) => ModeurwanReading::from(fault),
+        Ok(counts) => ModeurwanReading {
             number: SUCCESS,
             place: NONE,
-            operations,
-            classes,
-            controls,
-            arcs,
+            operations: counts.operations,
+            classes: counts.classes,
+            controls: counts.controls,
+            arcs: counts.arcs,
         },
     }
 }
@@ -93,23 +135,13 @@ pub extern "C" fn modeurwan_schedule(
     ensures { Schedules graph.now slots.old table.old result slots.new table.new }
 {
     match scheduler::schedule(graph, slots, table) {
-        Scheduled::Refused { number, place } => ModeurwanAnswer {
-            number: number as usize,
-            place,
-            cycles: NONE,
-            rows: NONE,
-            states: NONE,
-        },
-        Scheduled::Done {
-            cycles,
-            rows,
-            states,
-        } => ModeurwanAnswer {
+        Err(fault) => ModeurwanAnswer::from(fault),
+        Ok(schedule) => ModeurwanAnswer {
             number: SUCCESS,
             place: NONE,
-            cycles: cycles as usize,
-            rows,
-            states,
+            cycles: schedule.cycles as usize,
+            rows: schedule.rows,
+            states: schedule.states,
         },
     }
 }
@@ -120,18 +152,12 @@ pub extern "C" fn modeurwan_check(graph: &[u8], table: &[u8]) -> ModeurwanAnswer
     ensures { result ≡ answer_numbers (checker graph.now table.now) }
 {
     match checker::check(graph, table) {
-        Checked::Refused { number, place } => ModeurwanAnswer {
-            number: number as usize,
-            place,
-            cycles: NONE,
-            rows: NONE,
-            states: NONE,
-        },
-        Checked::Accepted { cycles, rows } => ModeurwanAnswer {
+        Err(fault) => ModeurwanAnswer::from(fault),
+        Ok(acceptance) => ModeurwanAnswer {
             number: SUCCESS,
             place: NONE,
-            cycles: cycles as usize,
-            rows,
+            cycles: acceptance.cycles as usize,
+            rows: acceptance.rows,
             states: NONE,
         },
     }
@@ -149,7 +175,7 @@ pub extern "C" fn modeurwan_rows_of(graph: &[u8], table: &[u8], cycle: u32) -> M
     }
 }
 
-// Writes the graph file of an edition and lists to the front of the output lent.
+// Writes the graph file of an edition and lists to the front of the output lent. The C interface needs them one by one.
 #[unsafe(no_mangle)]
 pub extern "C" fn modeurwan_write(
     edition: u8,
@@ -161,13 +187,16 @@ pub extern "C" fn modeurwan_write(
 ) -> ModeurwanWriting
     ensures { Writes (graph_of edition limits.now operations.now controls.now arcs.now) output.old result output.new }
 {
-    match writer::write(edition, operations, limits, controls, arcs, output) {
-        Written::Refused { number, place } => ModeurwanWriting {
-            number: number as usize,
-            place,
-            length: NONE,
-        },
-        Written::Done { length } => ModeurwanWriting {
+    let graph = Graph {
+        edition: u32::from(edition),
+        limits,
+        operations,
+        controls,
+        arcs,
+    };
+    match writer::write(&graph, output) {
+        Err(fault) => ModeurwanWriting::from(fault),
+        Ok(length) => ModeurwanWriting {
             number: SUCCESS,
             place: NONE,
             length,

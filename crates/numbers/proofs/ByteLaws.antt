@@ -1,9 +1,9 @@
 -- A number of a file by its bytes; bytes beyond the end are 0. Assumes nothing.
 use Prim.Native.Nat.{ℕ, zero, suc, ◌+◌, ◌-◌, ◌*◌, ◌^◌, ◌≤◌, ◌<◌}
-use native.Mathlib.Nat.{suc-add, zero-add, add-zero, sub-zero, pow-suc, pow-le-pow_right}
+use native.Mathlib.Nat.{suc-add, zero-add, sub-zero, pow-suc, pow-le-pow_right}
 use native.Mathlib.Numerals.{one-add}
 use native.Mathlib.Omega.{arith}
-use mathlib.Core.Path.{◌≡◌, refl, sym}
+use mathlib.Core.Path.{◌≡◌, refl, sym, ◌∙◌}
 use mathlib.Core.List.{List, [], ◌∷◌}
 use lib.ListN.{length, take, drop, length-drop, get_or-eq_default}
 use lib.Seq.{take_all, take-nil, drop-nil}
@@ -26,9 +26,6 @@ unfolding number_at little_endian
 number_none [] i = simp (take-nil, drop-nil) refl
 number_none (x ∷ l) zero = rw (zero-add 0) refl
 number_none (x ∷ l) (suc i) = rw (suc-add i 0) (number_none l i)
-
-pub number-one : (l : List ℕ) (i : ℕ) → number_at l i 1 ≡ byte_at l i
-number-one l i = rw (number_step l i 0, number_none l (i + 1), add-zero (byte_at l i)) refl
 
 -- a number that starts beyond the end is 0
 pub number_past : (l : List ℕ) (i size : ℕ) → length l ≤ i → number_at l i size ≡ 0
@@ -59,10 +56,10 @@ one_lower l n k b r h m first rest =
       small = rw (e, pow-suc) (omega arith);
     }
 
-pub all_read : (l : List ℕ) (i n k r : ℕ) → k ≡ 0 → (let rest = take (length l - i) (drop i l) in Reads (number_at rest k (n - k)) (n - k) r)
+pub all_read : (l rest : List ℕ) (i n k r : ℕ) → k ≡ 0 → rest ≡ take (length l - i) (drop i l) → Reads (number_at rest k (n - k)) (n - k) r
     → Reads (number_at l i n) n r
-all_read l i n k r e read =
-    let whole : take (length l - i) (drop i l) ≡ drop i l = take_all (length l - i) (drop i l) (omega (arith, length-drop i l)) in
+all_read l rest i n k r e part read =
+    let whole : rest ≡ drop i l = part ∙ take_all (length l - i) (drop i l) (omega (arith, length-drop i l)) in
     rw (← number-from l i n, ← whole, ← sub-zero n, ← e) read
 
 -- three of four bytes

@@ -7,36 +7,30 @@ ghost use Rattle.meaning.specs.Graph.{byte_at, number_at};
 ghost use Rattle.numbers.specs.Reads.{Reads};
 
 // The byte at i.
+#[tactic(auto, unfolding(meaning::specs::Graph::byte_at))]
 pub fn byte(s: &[u8], i: usize) -> u32
     ensures { Reads (byte_at s.now i) 1 result }
 {
-    if i < s.len() { s[i] as u32 } else { 0 }
+    s.get(i).map_or(0, |b| u32::from(*b))
 }
 
 // The number of two bytes at i.
 pub fn pair(s: &[u8], i: usize) -> u32
     ensures { Reads (number_at s.now i 2) 2 result }
 {
-    if i < s.len() {
-        byte(s, i) + 256 * byte(s, i + 1)
-    } else {
-        0
-    }
+    number(s, i, 2)
 }
 
 // The number of `size` bytes from i on, and of no more than four.
 pub fn number(s: &[u8], i: usize, size: usize) -> u32
     ensures { Reads (number_at s.now i (min size 4)) (min size 4) result }
 {
-    if s.len() <= i {
+    let Some(rest) = s.get(i..) else {
         return 0;
-    }
-    let rest = &s[i..];
-    let mut left = if size < 4 { size } else { 4 };
+    };
     let mut number: u32 = 0;
-    while 0 < left {
-        left -= 1;
-        number = byte(rest, left) + 256 * number;
+    for j in (0..size.min(4)).rev() {
+        number = byte(rest, j) + 256 * number;
     }
     number
 }

@@ -9,7 +9,11 @@ use Rattle.parts.specs.declared.Literals.{Literals as Masks}
 use Rattle.parts.specs.declared.Operation.{Operation}
 use Rattle.parts.specs.declared.Arc.{Arc}
 use Rattle.parts.specs.declared.Row.{Row}
-use Rattle.parts.specs.Fields.{literals_of, IsOperation, IsArc, IsRow, Stands, Lent, OfEdition, OfLimits, OfOperations, OfControls, OfArcs}
+use Rattle.parts.specs.declared.Counts.{Counts}
+use Rattle.parts.specs.declared.Starts.{Starts}
+use Rattle.parts.specs.declared.State.{State as Fields}
+use Rattle.meaning.specs.Steps.{State}
+use Rattle.parts.specs.Fields.{literals_of, state_of, Counted, CountsOf, StartsOf, IsOperation, IsArc, IsRow, Stands, Lent, OfEdition, OfLimits, OfOperations, OfControls, OfArcs}
 
 pub one-start : (n bits a b : ℕ) → Stands n bits a → Stands n bits b → a ≡ b
 one-start n bits a b p q = p.right ∙ sym q.right
@@ -42,20 +46,16 @@ pub one_literals : (a b : Masks) → literals_of a ≡ literals_of b → a ≡ b
 unfolding literals_of
 one_literals a b e = ap (λ (l : Literals). record { on_true = l.on_true; on_false = l.on_false }) e
 
-pub one-operation : (edition : ℕ) (operations : List ℕ) (j : ℕ) (a b : Operation) → OfOperations edition operations (λ g. IsOperation g j a)
-    → OfOperations edition operations (λ g. IsOperation g j b) → a ≡ b
-one-operation edition operations j a b p q =
-    let g = graph_of edition [] operations [] [] in
-    let m = p g refl refl in
-    let n = q g refl refl in
+pub one_state : (s : State) (a b : Fields) → state_of a ≡ s → state_of b ≡ s → a ≡ b
+one_state s a b p q = ap (λ (r : State). record { values = r.values; done = r.done }) (p ∙ sym q)
+
+pub one-operation : (g : Graph) (j : ℕ) (a b : Operation) → IsOperation g j a → IsOperation g j b → a ≡ b
+one-operation g j a b m n =
     ap₂ (λ (k : ℕ) (l : Masks). record { «class» = k; path = l }) (m.class ∙ sym n.class)
     (one_literals a.path b.path (m.path ∙ sym n.path))
 
-pub one-arc : (arcs : List ℕ) (i : ℕ) (a b : Arc) → OfArcs arcs (λ g. IsArc g i a) → OfArcs arcs (λ g. IsArc g i b) → a ≡ b
-one-arc arcs i a b p q =
-    let g = graph_of 0 [] [] [] arcs in
-    let m = p g refl in
-    let n = q g refl in
+pub one-arc : (g : Graph) (i : ℕ) (a b : Arc) → IsArc g i a → IsArc g i b → a ≡ b
+one-arc g i a b m n =
     λ t. record {
       source = (m.source ∙ sym n.source) t;
       target = (m.target ∙ sym n.target) t;
@@ -71,7 +71,34 @@ one-row edition table i a b p q =
     let n = q g refl in
     λ t. record {
       cycle = (m.cycle ∙ sym n.cycle) t;
-      values = (m.values ∙ sym n.values) t;
-      done = (m.done ∙ sym n.done) t;
+      state = one_state _ a.state b.state m.state n.state t;
       step = (m.step ∙ sym n.step) t;
+    }
+
+-- the counts and starts that a header says, and the counts of a graph
+pub one_counts : (file : List ℕ) (a b : Counts) → Counted file a → Counted file b → a ≡ b
+one_counts file a b m n =
+    λ t. record {
+      operations = (m.operations ∙ sym n.operations) t;
+      classes = (m.classes ∙ sym n.classes) t;
+      controls = (m.controls ∙ sym n.controls) t;
+      arcs = (m.arcs ∙ sym n.arcs) t;
+    }
+
+pub one_counts_of : (g : Graph) (a b : Counts) → CountsOf g a → CountsOf g b → a ≡ b
+one_counts_of g a b m n =
+    λ t. record {
+      operations = (m.operations ∙ sym n.operations) t;
+      classes = (m.classes ∙ sym n.classes) t;
+      controls = (m.controls ∙ sym n.controls) t;
+      arcs = (m.arcs ∙ sym n.arcs) t;
+    }
+
+pub one_starts : (file : List ℕ) (a b : Starts) → StartsOf file a → StartsOf file b → a ≡ b
+one_starts file a b m n =
+    λ t. record {
+      operations = (m.operations.right ∙ sym n.operations.right) t;
+      controls = (m.controls.right ∙ sym n.controls.right) t;
+      arcs = (m.arcs.right ∙ sym n.arcs.right) t;
+      end = (m.end.right ∙ sym n.end.right) t;
     }

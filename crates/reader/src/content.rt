@@ -1,220 +1,158 @@
-// Refusals 6 to 11: for each a test of one place and a loop over the places, which ends at the first fault. They know an
-// edition and the parts alone, no file. The conditions of a test are joined by & and |, since each is a look at a few bytes.
-ghost use Rattle.std.specs.Prelude.{◌≡◌, []};
-ghost use Rattle.meaning.specs.Graph.{graph_of, stray_path, follows_join, unordered};
-ghost use Rattle.parts.specs.Fields.{OfArcs};
-ghost use Rattle.reader.specs.Reading.{fault_at, verdict_at, verdict_of};
+// Refusals 6 to 11: for each a test of one place, and the first place at fault. They know a graph alone, no file. Tests over two
+// kinds of places are nested loops that end at the first fault, where `break` yields the refusal and the place: a `for` yields no
+// value, so the label stands on the block round them. The conditions of
+// a test are joined by & and |, since each is a look at a few bytes.
+ghost use Rattle.std.specs.Prelude.{◌≡◌};
+ghost use Rattle.meaning.specs.Graph.{stray_path, follows_join, unordered};
+ghost use Rattle.parts.specs.Fields.{graph_in, IsArc};
+ghost use Rattle.refusals.specs.Faults.{verdict_of};
+ghost use Rattle.reader.specs.Reading.{fault_at, verdict_at};
 
-use crate::Fault;
 use crate::sets::{lacks, misnamed, names};
-use parts::{arc_count, class, joins, kind, operation_count, path, producer, source, target};
+use parts::{Arc, Graph};
+use refusals::{Fault, Refusal, first_fault};
 
 // The class of operation j is not below the number of classes.
-fn classless(edition: u32, limits: &[u8], operations: &[u8], j: usize) -> bool
-    ensures { result ≡ fault_at 6 (graph_of edition limits.now operations.now [] []) j }
+fn classless(graph: &Graph, j: usize) -> bool
+    ensures { result ≡ fault_at 6 (graph_in graph.now) j }
 {
-    limits.len() <= class(edition, operations, j)
+    graph.limits.len() <= graph.operation(j).class
 }
 
 // Refusal 6: the first operation whose class is not below the number of classes.
-pub(crate) fn classes(edition: u32, limits: &[u8], operations: &[u8]) -> Fault
-    ensures { verdict_of result ≡ verdict_at 6 (graph_of edition limits.now operations.now [] []) }
+pub(crate) fn classes(graph: &Graph) -> Result<(), Fault>
+    ensures { verdict_of result ≡ verdict_at 6 (graph_in graph.now) }
 {
-    let count = operation_count(edition, operations);
-    let mut j = 0;
-    'operations: loop {
-        if j == count {
-            break 'operations Fault::Passed;
-        }
-        if classless(edition, limits, operations, j) {
-            break 'operations Fault::At {
-                number: 6,
-                place: j,
-            };
-        }
-        j += 1;
-    }
+    first_fault(Refusal::Class, graph.operation_count(), |j| {
+        classless(graph, j)
+    })
 }
 
 // The path of operation j has a bit that is no control, or names a control on both sides.
-fn mispathed(edition: u32, operations: &[u8], controls: &[u8], j: usize) -> bool
-    ensures { result ≡ fault_at 7 (graph_of edition [] operations.now controls.now []) j }
+fn mispathed(graph: &Graph, j: usize) -> bool
+    ensures { result ≡ fault_at 7 (graph_in graph.now) j }
 {
-    misnamed(path(edition, operations, j), controls.len())
+    misnamed(graph.operation(j).path, graph.controls.len())
 }
 
 // Refusal 7: the first operation with masks at fault.
-pub(crate) fn paths(edition: u32, operations: &[u8], controls: &[u8]) -> Fault
-    ensures { verdict_of result ≡ verdict_at 7 (graph_of edition [] operations.now controls.now []) }
+pub(crate) fn paths(graph: &Graph) -> Result<(), Fault>
+    ensures { verdict_of result ≡ verdict_at 7 (graph_in graph.now) }
 {
-    let count = operation_count(edition, operations);
-    let mut j = 0;
-    'operations: loop {
-        if j == count {
-            break 'operations Fault::Passed;
-        }
-        if mispathed(edition, operations, controls, j) {
-            break 'operations Fault::At {
-                number: 7,
-                place: j,
-            };
-        }
-        j += 1;
-    }
+    first_fault(Refusal::Path, graph.operation_count(), |j| {
+        mispathed(graph, j)
+    })
 }
 
 // Refusal 8: the first control whose operation is not below the number of operations or that of an earlier control. A file
 // has few controls.
-pub(crate) fn producers(edition: u32, operations: &[u8], controls: &[u8]) -> Fault
-    ensures { verdict_of result ≡ verdict_at 8 (graph_of edition [] operations.now controls.now []) }
+pub(crate) fn producers(graph: &Graph) -> Result<(), Fault>
+    ensures { verdict_of result ≡ verdict_at 8 (graph_in graph.now) }
 {
-    let count = operation_count(edition, operations);
-    let mut b = 0;
-    'controls: loop {
-        if b == controls.len() {
-            break 'controls Fault::Passed;
-        }
-        if count <= producer(controls, b) {
-            break 'controls Fault::At {
-                number: 8,
+    'controls: {
+        for b in 0..graph.controls.len() {
+            let fault = Fault {
+                refusal: Refusal::Producer,
                 place: b,
             };
-        }
-        let mut d = 0;
-        'earlier: loop {
-            if d == b {
-                break 'earlier;
+            if graph.operation_count() <= graph.producer(b) {
+                break 'controls Err(fault);
             }
-            if producer(controls, d) == producer(controls, b) {
-                break 'controls Fault::At {
-                    number: 8,
-                    place: b,
-                };
+            for d in 0..b {
+                if graph.producer(d) == graph.producer(b) {
+                    break 'controls Err(fault);
+                }
             }
-            d += 1;
         }
-        b += 1;
+        Ok(())
     }
 }
 
 // The path of operation j names control x without all literals of the path of x's operation, or j is that operation.
-fn stray(edition: u32, operations: &[u8], controls: &[u8], j: usize, x: usize) -> bool
-    ensures { result ≡ stray_path (graph_of edition [] operations.now controls.now []) j x }
+fn stray(graph: &Graph, j: usize, x: usize) -> bool
+    ensures { result ≡ stray_path (graph_in graph.now) j x }
 {
-    let above = producer(controls, x);
-    let own = path(edition, operations, j);
+    let above = graph.producer(x);
+    let own = graph.operation(j).path;
     names(own, x)
-        & (lacks(controls.len(), path(edition, operations, above), own, own) | (above == j))
+        & (lacks(graph.controls.len(), graph.operation(above).path, own, own) | (above == j))
 }
 
 // Refusal 9: the first operation whose path is stray at a control.
-pub(crate) fn branches(edition: u32, operations: &[u8], controls: &[u8]) -> Fault
-    ensures { verdict_of result ≡ verdict_at 9 (graph_of edition [] operations.now controls.now []) }
+pub(crate) fn branches(graph: &Graph) -> Result<(), Fault>
+    ensures { verdict_of result ≡ verdict_at 9 (graph_in graph.now) }
 {
-    let count = operation_count(edition, operations);
-    let mut j = 0;
-    'operations: loop {
-        if j == count {
-            break 'operations Fault::Passed;
-        }
-        let mut x = 0;
-        'controls: loop {
-            if x == controls.len() {
-                break 'controls;
+    'operations: {
+        for j in 0..graph.operation_count() {
+            for x in 0..graph.controls.len() {
+                if stray(graph, j, x) {
+                    break 'operations Err(Fault {
+                        refusal: Refusal::Branch,
+                        place: j,
+                    });
+                }
             }
-            if stray(edition, operations, controls, j, x) {
-                break 'operations Fault::At {
-                    number: 9,
-                    place: j,
-                };
-            }
-            x += 1;
         }
-        j += 1;
+        Ok(())
     }
 }
 
-// Arc a is a follow arc with literals.
-fn follows_join(arcs: &[u8], a: usize) -> bool
-    ensures { OfArcs arcs.now (λ g. result ≡ follows_join g a) }
+// An arc is a follow arc with literals.
+fn follows_join(arc: Arc) -> bool
+    ensures { (g : _) (a : _) → IsArc g a arc → result ≡ follows_join g a }
 {
-    let side = joins(arcs, a);
-    (kind(arcs, a) == 1) & !((side.on_true == 0) & (side.on_false == 0))
+    let joins = arc.joins;
+    arc.kind.is_follow() & !((joins.on_true == 0) & (joins.on_false == 0))
 }
 
 // (target, source) of arc a is not above that of the arc before.
-fn unordered(arcs: &[u8], a: usize) -> bool
-    ensures { OfArcs arcs.now (λ g. result ≡ unordered g a) }
+fn unordered(graph: &Graph, a: usize) -> bool
+    ensures { result ≡ unordered (graph_in graph.now) a }
 {
     if a == 0 {
         return false;
     }
-    let last = target(arcs, a - 1);
-    let own = target(arcs, a);
-    !((last < own) | ((last == own) & (source(arcs, a - 1) < source(arcs, a))))
+    let last = graph.arc(a - 1);
+    let own = graph.arc(a);
+    !((last.target, last.source) < (own.target, own.source))
 }
 
 // Arc a does not lead to a later operation of the graph, is of no kind, has masks at fault, or is out of order.
-fn unfit(edition: u32, operations: &[u8], controls: &[u8], arcs: &[u8], a: usize) -> bool
-    ensures { result ≡ fault_at 10 (graph_of edition [] operations.now controls.now arcs.now) a }
+fn unfit(graph: &Graph, a: usize) -> bool
+    ensures { result ≡ fault_at 10 (graph_in graph.now) a }
 {
-    let end = target(arcs, a);
-    (end <= source(arcs, a))
-        | (operation_count(edition, operations) <= end)
-        | (1 < kind(arcs, a))
-        | misnamed(joins(arcs, a), controls.len())
-        | follows_join(arcs, a)
-        | unordered(arcs, a)
+    let arc = graph.arc(a);
+    (arc.target <= arc.source)
+        | (graph.operation_count() <= arc.target)
+        | arc.kind.is_unknown()
+        | misnamed(arc.joins, graph.controls.len())
+        | follows_join(arc)
+        | unordered(graph, a)
 }
 
 // Refusal 10: the first arc that is unfit.
-pub(crate) fn arcs_fit(edition: u32, operations: &[u8], controls: &[u8], arcs: &[u8]) -> Fault
-    ensures { verdict_of result ≡ verdict_at 10 (graph_of edition [] operations.now controls.now arcs.now) }
+pub(crate) fn arcs_fit(graph: &Graph) -> Result<(), Fault>
+    ensures { verdict_of result ≡ verdict_at 10 (graph_in graph.now) }
 {
-    let count = arc_count(arcs);
-    let mut a = 0;
-    'arcs: loop {
-        if a == count {
-            break 'arcs Fault::Passed;
-        }
-        if unfit(edition, operations, controls, arcs, a) {
-            break 'arcs Fault::At {
-                number: 10,
-                place: a,
-            };
-        }
-        a += 1;
-    }
+    first_fault(Refusal::Arc, graph.arc_count(), |a| unfit(graph, a))
 }
 
 // A literal of the path of arc a's source is neither in its target's path nor on the arc.
-fn unjoined(edition: u32, operations: &[u8], controls: &[u8], arcs: &[u8], a: usize) -> bool
-    ensures { result ≡ fault_at 11 (graph_of edition [] operations.now controls.now arcs.now) a }
+fn unjoined(graph: &Graph, a: usize) -> bool
+    ensures { result ≡ fault_at 11 (graph_in graph.now) a }
 {
+    let arc = graph.arc(a);
     lacks(
-        controls.len(),
-        path(edition, operations, source(arcs, a)),
-        path(edition, operations, target(arcs, a)),
-        joins(arcs, a),
+        graph.controls.len(),
+        graph.operation(arc.source).path,
+        graph.operation(arc.target).path,
+        arc.joins,
     )
 }
 
 // Refusal 11: the first arc that leaves a side of its source unjoined.
-pub(crate) fn arcs_join(edition: u32, operations: &[u8], controls: &[u8], arcs: &[u8]) -> Fault
-    ensures { verdict_of result ≡ verdict_at 11 (graph_of edition [] operations.now controls.now arcs.now) }
+pub(crate) fn arcs_join(graph: &Graph) -> Result<(), Fault>
+    ensures { verdict_of result ≡ verdict_at 11 (graph_in graph.now) }
 {
-    let count = arc_count(arcs);
-    let mut a = 0;
-    'arcs: loop {
-        if a == count {
-            break 'arcs Fault::Passed;
-        }
-        if unjoined(edition, operations, controls, arcs, a) {
-            break 'arcs Fault::At {
-                number: 11,
-                place: a,
-            };
-        }
-        a += 1;
-    }
+    first_fault(Refusal::Join, graph.arc_count(), |a| unjoined(graph, a))
 }

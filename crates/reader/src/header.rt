@@ -1,13 +1,13 @@
-// The header of a graph file: refusals 1 to 5.
+// The header of a graph file: refusals 1 to 5. `as usize` on a u32: usize has no From<u32>.
 ghost use Rattle.std.specs.Prelude.{◌≡◌};
 ghost use Rattle.machine.specs.Refusals.{judge};
 ghost use Rattle.meaning.specs.Graph.{file_lines};
-ghost use Rattle.reader.specs.Reading.{line_of, verdict_of};
+ghost use Rattle.refusals.specs.Faults.{verdict_of};
+ghost use Rattle.reader.specs.Reading.{line_of};
 
-use crate::Fault;
 use numbers::{byte, pair};
-
-const HEADER_BYTES: usize = 16;
+use parts::{Counts, HEADER_BYTES, Starts};
+use refusals::{Fault, Refusal, refuse_if};
 
 // Refusal 2: the mark or the edition differs.
 fn unmarked(file: &[u8]) -> bool
@@ -20,58 +20,28 @@ fn unmarked(file: &[u8]) -> bool
 fn overfull(file: &[u8]) -> bool
     ensures { result ≡ (line_of 3 (file_lines file.now)).fault 0 }
 {
-    parts::too_many(
-        parts::edition(file),
-        byte(file, 3) as usize,
-        byte(file, 4) as usize,
-        byte(file, 5) as usize,
-        pair(file, 6) as usize,
-    )
+    Counts::of_header(file).too_many(parts::edition(file))
 }
 
 // Refusal 4: an offset differs.
 fn misplaced(file: &[u8]) -> bool
     ensures { result ≡ (line_of 4 (file_lines file.now)).fault 0 }
 {
+    let starts = Starts::of_header(file);
     !((pair(file, 8) as usize == HEADER_BYTES)
-        & (pair(file, 10) as usize == parts::operations_start(file))
-        & (pair(file, 12) as usize == parts::controls_start(file))
-        & (pair(file, 14) as usize == parts::arcs_start(file)))
+        & (pair(file, 10) as usize == starts.operations)
+        & (pair(file, 12) as usize == starts.controls)
+        & (pair(file, 14) as usize == starts.arcs))
 }
 
 // Refusals 1 to 5, the lower number first.
-pub(crate) fn header(file: &[u8]) -> Fault
+pub(crate) fn header(file: &[u8]) -> Result<(), Fault>
     ensures { verdict_of result ≡ judge (file_lines file.now) }
 {
-    if file.len() < HEADER_BYTES {
-        return Fault::At {
-            number: 1,
-            place: 0,
-        };
-    }
-    if unmarked(file) {
-        return Fault::At {
-            number: 2,
-            place: 0,
-        };
-    }
-    if overfull(file) {
-        return Fault::At {
-            number: 3,
-            place: 0,
-        };
-    }
-    if misplaced(file) {
-        return Fault::At {
-            number: 4,
-            place: 0,
-        };
-    }
-    if file.len() != parts::file_end(file) {
-        return Fault::At {
-            number: 5,
-            place: 0,
-        };
-    }
-    Fault::Passed
+    refuse_if(file.len() < HEADER_BYTES, Refusal::Short)?;
+    refuse_if(unmarked(file), Refusal::Unmarked)?;
+    refuse_if(overfull(file), Refusal::Overfull)?;
+    refuse_if(misplaced(file), Refusal::Misplaced)?;
+    let end = Starts::of_header(file).end;
+    refuse_if(file.len() != end, Refusal::Length)
 }

@@ -5,122 +5,47 @@
 mod content;
 mod header;
 mod sets;
+mod taken;
 
-ghost use Rattle.std.specs.Prelude.{◌≡◌, [], ◌∷◌, ◌<◌};
+ghost use Rattle.std.specs.Prelude.{◌≡◌, IfOk};
 ghost use Rattle.machine.specs.Refusals.{judge};
-ghost use Rattle.meaning.specs.Graph.{graph_of, content, content_lines};
+ghost use Rattle.meaning.specs.Graph.{content, content_lines};
 ghost use Rattle.meaning.specs.Answers.{graph_verdict, reader};
-ghost use Rattle.reader.specs.Reading.{entry, verdict_of, values_of};
+ghost use Rattle.parts.specs.Fields.{graph_in};
+ghost use Rattle.refusals.specs.Faults.{verdict_of};
+ghost use Rattle.reader.specs.Reading.{values_of, Holds};
 
-// What a test over places finds: nothing, or a refusal number with its place.
-#[derive(Clone, Copy)]
-pub enum Fault {
-    Passed,
-    At { number: u32, place: usize },
-}
+use parts::{Counts, Graph};
+use refusals::Fault;
+pub use taken::TakenGraph;
 
-// What the reader answers.
-#[derive(Clone, Copy)]
-pub enum Read {
-    Refused {
-        number: u32,
-        place: usize,
-    },
-    Taken {
-        operations: usize,
-        classes: usize,
-        controls: usize,
-        arcs: usize,
-    },
-}
-
-// The lines of refusals 6 to 11.
-const CONTENT_LINES: usize = 6;
-
-// Line i of refusals 6 to 11, counted from 0.
-fn line(
-    i: usize,
-    edition: u32,
-    limits: &[u8],
-    operations: &[u8],
-    controls: &[u8],
-    arcs: &[u8],
-) -> Fault
-    requires { i < 6 }
-    ensures { verdict_of result
-        ≡ judge (entry (content_lines (graph_of edition limits.now operations.now controls.now arcs.now)) i ∷ []) }
+// Refusals 6 to 11 of a graph, the lower number first, then the lower place.
+pub fn judge(graph: &Graph) -> Result<(), Fault>
+    ensures { verdict_of result ≡ judge (content_lines (graph_in graph.now)) }
 {
-    match i {
-        0 => content::classes(edition, limits, operations),
-        1 => content::paths(edition, operations, controls),
-        2 => content::producers(edition, operations, controls),
-        3 => content::branches(edition, operations, controls),
-        4 => content::arcs_fit(edition, operations, controls, arcs),
-        _ => content::arcs_join(edition, operations, controls, arcs),
-    }
+    content::classes(graph)?;
+    content::paths(graph)?;
+    content::producers(graph)?;
+    content::branches(graph)?;
+    content::arcs_fit(graph)?;
+    content::arcs_join(graph)
 }
 
-// Refusals 6 to 11 of the graph of this edition with these parts, the lower number first, then the lower place.
-pub fn judge(edition: u32, limits: &[u8], operations: &[u8], controls: &[u8], arcs: &[u8]) -> Fault
-    ensures { verdict_of result
-        ≡ judge (content_lines (graph_of edition limits.now operations.now controls.now arcs.now)) }
+// The graph of a file that passes refusals 1 to 11.
+pub fn take<'a>(file: &'a [u8]) -> Result<TakenGraph<'a>, Fault>
+    ensures verdict { verdict_of result ≡ graph_verdict file.now }
+    ensures graph { IfOk result (λ taken. Holds file.entry taken) }
 {
-    let mut i = 0;
-    'lines: loop {
-        if i == CONTENT_LINES {
-            break 'lines Fault::Passed;
-        }
-        let fault = line(i, edition, limits, operations, controls, arcs);
-        if let Fault::At {
-            number: _,
-            place: _,
-        } = fault
-        {
-            break 'lines fault;
-        }
-        i += 1;
-    }
-}
-
-// Refusals 6 to 11 of a file.
-fn content_fault(file: &[u8]) -> Fault
-    ensures { verdict_of result ≡ judge (content_lines (content file.now)) }
-{
-    judge(
-        parts::edition(file),
-        parts::limits(file),
-        parts::operations(file),
-        parts::controls(file),
-        parts::arcs(file),
-    )
-}
-
-// Refusals 1 to 11 of a file.
-fn file_fault(file: &[u8]) -> Fault
-    ensures { verdict_of result ≡ graph_verdict file.now }
-{
-    let fault = header::header(file);
-    if let Fault::At {
-        number: _,
-        place: _,
-    } = fault
-    {
-        return fault;
-    }
-    content_fault(file)
+    header::header(file)?;
+    let graph = Graph::of(file);
+    judge(&graph)?;
+    Ok(TakenGraph { graph })
 }
 
 // A graph file is taken with its counts, or refused with a number and a place.
-pub fn read_graph(file: &[u8]) -> Read
+pub fn read_graph(file: &[u8]) -> Result<Counts, Fault>
     ensures { values_of result ≡ reader file.now }
 {
-    match file_fault(file) {
-        Fault::At { number, place } => Read::Refused { number, place },
-        Fault::Passed => Read::Taken {
-            operations: numbers::byte(file, 3) as usize,
-            classes: numbers::byte(file, 4) as usize,
-            controls: numbers::byte(file, 5) as usize,
-            arcs: numbers::pair(file, 6) as usize,
-        },
-    }
+    take(file)?;
+    Ok(Counts::of_header(file))
 }

@@ -3,208 +3,163 @@
 
 #![tactic(auto)]
 
-use reader::Read;
+use parts::Counts;
 use std::io;
+
+// A graph that is taken. Two classes; operation 0 decides control 0; 1, on its true side, decides control 1; 2 stands on both
+// true sides, 3 on the false side of control 0, 4 on none. Arcs 1 to 2, 2 to 4 by both true sides, and 3 to 4 by the false
+// side.
+const GRAPH: [u8; 50] =
+    *b"HS\x01\x05\x02\x02\x03\x00\x10\x00\x12\x00\x21\x00\x23\x00\x01\x01\x00\x00\x00\x01\x01\x00\x01\x03\x00\x01\x00\x01\x00\x00\x00\x00\x01\x01\x02\x00\x00\x00\x02\x04\x00\x03\x00\x03\x04\x00\x00\x01";
 
 // The header of the largest file: 24 operations, 8 classes, 4 controls, 276 arcs.
 const LARGEST: [u8; 16] = *b"HS\x01\x18\x08\x04\x14\x01\x10\x00\x18\x00\x60\x00\x64\x00";
 
-fn print(rt: &impl Print, n: usize) -> io::Result<()> {
-    rt.write_all(b" ")?;
-    rt.print(n)
-}
-
+// What the reader says of a file.
 fn show(rt: &impl Print, file: &[u8]) -> io::Result<()> {
     match reader::read_graph(file) {
-        Read::Refused { number, place } => {
-            rt.write_all(b"refused")?;
-            print(rt, number as usize)?;
-            print(rt, place)?;
+        Ok(
+            Counts {
+                operations,
+                classes,
+                controls,
+                arcs,
+            },
+        ) => println!(rt; "taken {operations} {classes} {controls} {arcs}"),
+        Err(fault) => println!(rt; "{fault}"),
+    }
+}
+
+// What the reader says of the first `length` bytes. Plainer with the length apart: it is what a case is about.
+fn show_front(rt: &impl Print, room: &[u8], length: usize) -> io::Result<()> {
+    match room.get(..length) {
+        Some(file) => show(rt, file),
+        None => Ok(()),
+    }
+}
+
+// A byte that is set to another. Plainer so than a library for these lines, which another program has too.
+type Change = (usize, u8);
+
+// So many bytes of the graph, and zeros past its end, with some bytes changed.
+fn cut(rt: &impl Print, length: usize, changes: &[Change]) -> io::Result<()> {
+    let mut room = [0u8; 64];
+    room[..50].copy_from_slice(&GRAPH);
+    for (i, x) in changes {
+        if let Some(byte) = room.get_mut(*i) {
+            *byte = *x;
         }
-        Read::Taken {
-            operations,
-            classes,
-            controls,
-            arcs,
-        } => {
-            rt.write_all(b"taken")?;
-            print(rt, operations)?;
-            print(rt, classes)?;
-            print(rt, controls)?;
-            print(rt, arcs)?;
-        }
     }
-    rt.write_all(b"\n")
+    show_front(rt, &room, length)
 }
 
-fn show_part(rt: &impl Print, room: &[u8], n: usize) -> io::Result<()> {
-    if n <= room.len() {
-        show(rt, &room[0..n])?;
-    }
-    Ok(())
-}
-
-// The first n bytes as a file.
-fn show_first(rt: &impl Print, room: &[u8; 1481], n: usize) -> io::Result<()> {
-    show_part(rt, room, n)
-}
-
-fn put(room: &mut [u8; 1481], i: usize, x: u8) {
-    if i < 1481 {
-        room[i] = x;
-    }
-}
-
-// A graph of 50 bytes that is taken. Two classes; operation 0 decides control 0; 1, on its true side, decides control 1; 2
-// stands on both true sides, 3 on the false side of control 0, 4 on none. Arcs 1 to 2, 2 to 4 by both true sides, and 3 to
-// 4 by the false side.
-fn graph() -> [u8; 1481] {
-    let mut room = [0u8; 1481];
-    fill(
-        &mut room,
-        b"HS\x01\x05\x02\x02\x03\x00\x10\x00\x12\x00\x21\x00\x23\x00\x01\x01\x00\x00\x00\x01\x01\x00\x01\x03\x00\x01\x00\x01\x00\x00\x00\x00\x01\x01\x02\x00\x00\x00\x02\x04\x00\x03\x00\x03\x04\x00\x00\x01",
-    );
-    room
-}
-
-fn fill(room: &mut [u8; 1481], from: &[u8]) {
-    let mut i = 0;
-    while i < from.len() {
-        put(room, i, from[i]);
-        i += 1;
-    }
-}
-
-// The first n bytes of the graph with byte i set to x and byte j to y.
-fn cut(rt: &impl Print, n: usize, i: usize, x: u8, j: usize, y: u8) -> io::Result<()> {
-    let mut room = graph();
-    put(&mut room, i, x);
-    put(&mut room, j, y);
-    show_first(rt, &room, n)
-}
-
-fn both(rt: &impl Print, i: usize, x: u8, j: usize, y: u8) -> io::Result<()> {
-    cut(rt, 50, i, x, j, y)
-}
-
-fn one(rt: &impl Print, i: usize, x: u8) -> io::Result<()> {
-    cut(rt, 50, i, x, i, x)
-}
-
-fn first(rt: &impl Print, n: usize) -> io::Result<()> {
-    cut(rt, n, 0, 0x48, 0, 0x48)
+// The whole graph with some bytes changed.
+fn changed(rt: &impl Print, changes: &[Change]) -> io::Result<()> {
+    cut(rt, 50, changes)
 }
 
 // Every arc between 24 operations, by target and then by source.
-fn all_arcs(room: &mut [u8; 1481]) {
-    let mut source = 0;
-    let mut target = 1;
-    let mut at = 100;
-    while at < 1480 {
-        put(room, at, source);
-        put(room, at + 1, target);
-        source = std::num::wrapping_add_u8(source, 1);
-        if source == target {
-            source = 0;
-            target = std::num::wrapping_add_u8(target, 1);
+fn all_arcs(arcs: &mut [u8]) {
+    let ends = (1..24u8).flat_map(|target| (0..target).map(move |source| (source, target)));
+    for (arc, (source, target)) in arcs.chunks_exact_mut(5).zip(ends) {
+        if let [first, second, ..] = arc {
+            *first = source;
+            *second = target;
         }
-        at += 5;
     }
 }
 
 // The largest file, and one byte more.
 fn largest(rt: &impl Print) -> io::Result<()> {
     let mut room = [0u8; 1481];
-    fill(&mut room, &LARGEST);
-    put(&mut room, 97, 1);
-    put(&mut room, 98, 2);
-    put(&mut room, 99, 3);
-    all_arcs(&mut room);
-    show_first(rt, &room, 1480)?;
-    show_first(rt, &room, 1481)
+    room[..16].copy_from_slice(&LARGEST);
+    room[96..100].copy_from_slice(&[0, 1, 2, 3]);
+    all_arcs(&mut room[100..1480]);
+    show_front(rt, &room, 1480)?;
+    show_front(rt, &room, 1481)
 }
 
 // 1 to 5.
 fn header_refusals(rt: &impl Print) -> io::Result<()> {
     // 1, on the empty input too
-    first(rt, 0)?;
-    first(rt, 15)?;
+    cut(rt, 0, &[])?;
+    cut(rt, 15, &[])?;
     // 2
-    one(rt, 0, 0x49)?;
-    one(rt, 1, 0x54)?;
-    one(rt, 2, 2)?;
+    changed(rt, &[(0, 0x49)])?;
+    changed(rt, &[(1, 0x54)])?;
+    changed(rt, &[(2, 2)])?;
     // 3
-    one(rt, 3, 25)?;
-    one(rt, 4, 9)?;
-    one(rt, 5, 5)?;
-    both(rt, 6, 21, 7, 1)?;
+    changed(rt, &[(3, 25)])?;
+    changed(rt, &[(4, 9)])?;
+    changed(rt, &[(5, 5)])?;
+    changed(rt, &[(6, 21), (7, 1)])?;
     // 4
-    one(rt, 8, 17)?;
-    one(rt, 11, 1)?;
-    one(rt, 12, 34)?;
-    one(rt, 14, 34)?;
+    changed(rt, &[(8, 17)])?;
+    changed(rt, &[(11, 1)])?;
+    changed(rt, &[(12, 34)])?;
+    changed(rt, &[(14, 34)])?;
     // 5
-    first(rt, 49)?;
-    first(rt, 51)?;
-    first(rt, 16)
+    cut(rt, 49, &[])?;
+    cut(rt, 51, &[])?;
+    cut(rt, 16, &[])
 }
 
 // 6 to 9.
 fn content_refusals(rt: &impl Print) -> io::Result<()> {
     // 6
-    one(rt, 18, 2)?;
-    one(rt, 30, 255)?;
+    changed(rt, &[(18, 2)])?;
+    changed(rt, &[(30, 255)])?;
     // 7: a bit that is no control, a control on both sides
-    one(rt, 19, 4)?;
-    one(rt, 29, 8)?;
-    one(rt, 28, 1)?;
+    changed(rt, &[(19, 4)])?;
+    changed(rt, &[(29, 8)])?;
+    changed(rt, &[(28, 1)])?;
     // 8: no operation, named before
-    one(rt, 33, 5)?;
-    one(rt, 34, 5)?;
-    one(rt, 34, 0)?;
+    changed(rt, &[(33, 5)])?;
+    changed(rt, &[(34, 5)])?;
+    changed(rt, &[(34, 0)])?;
     // 9: its own control, a literal missing, and with the other side of it
-    one(rt, 19, 1)?;
-    one(rt, 25, 2)?;
-    both(rt, 25, 2, 26, 1)
+    changed(rt, &[(19, 1)])?;
+    changed(rt, &[(25, 2)])?;
+    changed(rt, &[(25, 2), (26, 1)])
 }
 
 // 10 and 11.
 fn arc_refusals(rt: &impl Print) -> io::Result<()> {
     // 10: source, target, kind, masks, follow arc with literals, order
-    one(rt, 35, 2)?;
-    one(rt, 36, 5)?;
-    one(rt, 37, 2)?;
-    one(rt, 38, 4)?;
-    one(rt, 42, 1)?;
-    one(rt, 44, 1)?;
-    one(rt, 45, 2)?;
-    one(rt, 45, 1)?;
-    one(rt, 47, 2)?;
+    changed(rt, &[(35, 2)])?;
+    changed(rt, &[(36, 5)])?;
+    changed(rt, &[(37, 2)])?;
+    changed(rt, &[(38, 4)])?;
+    changed(rt, &[(42, 1)])?;
+    changed(rt, &[(44, 1)])?;
+    changed(rt, &[(45, 2)])?;
+    changed(rt, &[(45, 1)])?;
+    changed(rt, &[(47, 2)])?;
     // 11
-    one(rt, 36, 3)?;
-    one(rt, 43, 1)?;
-    one(rt, 49, 0)
+    changed(rt, &[(36, 3)])?;
+    changed(rt, &[(43, 1)])?;
+    changed(rt, &[(49, 0)])
 }
 
 // Pairs: the lower number first, then the lower place.
 fn pairs(rt: &impl Print) -> io::Result<()> {
-    cut(rt, 15, 0, 0, 0, 0)?;
-    both(rt, 0, 0, 3, 25)?;
-    both(rt, 3, 25, 8, 17)?;
-    cut(rt, 49, 8, 17, 8, 17)?;
-    both(rt, 8, 17, 18, 2)?;
-    cut(rt, 49, 18, 2, 18, 2)?;
-    both(rt, 30, 2, 19, 4)?;
-    both(rt, 19, 4, 33, 5)?;
-    both(rt, 34, 0, 19, 1)?;
-    both(rt, 25, 2, 35, 2)?;
-    both(rt, 47, 2, 36, 3)?;
-    both(rt, 18, 2, 30, 2)?;
-    both(rt, 28, 1, 19, 4)
+    cut(rt, 15, &[(0, 0)])?;
+    changed(rt, &[(0, 0), (3, 25)])?;
+    changed(rt, &[(3, 25), (8, 17)])?;
+    cut(rt, 49, &[(8, 17)])?;
+    changed(rt, &[(8, 17), (18, 2)])?;
+    cut(rt, 49, &[(18, 2)])?;
+    changed(rt, &[(30, 2), (19, 4)])?;
+    changed(rt, &[(19, 4), (33, 5)])?;
+    changed(rt, &[(34, 0), (19, 1)])?;
+    changed(rt, &[(25, 2), (35, 2)])?;
+    changed(rt, &[(47, 2), (36, 3)])?;
+    changed(rt, &[(18, 2), (30, 2)])?;
+    changed(rt, &[(28, 1), (19, 4)])
 }
 
 fn main(rt: HostRuntime) -> io::Result<()> {
-    first(&rt, 50)?;
+    cut(&rt, 50, &[])?;
     header_refusals(&rt)?;
     content_refusals(&rt)?;
     arc_refusals(&rt)?;

@@ -3,7 +3,7 @@ use Prim.Native.Nat.{ℕ, ◌*◌, ◌≤◌, ◌<◌, zero-le}
 use native.Mathlib.Nat.{le_trans, zero-add}
 use native.Mathlib.Omega.{arith}
 use mathlib.Core.Path.{◌≡◌, refl, sym, ◌∙◌, ap, ap₂, subst}
-use mathlib.Core.Bool.{cond}
+use mathlib.Core.Bool.{Bool, true, false, cond}
 use mathlib.Core.List.{List, [], ◌∷◌, ◌++◌}
 use lib.ListN.{length, drop, replicate}
 use lib.Arith.{le→nltb}
@@ -19,8 +19,10 @@ use Rattle.meaning.specs.TableFile.{most_rows, row_start, bytes_of, header_file,
 use Rattle.meaning.specs.Answers.{answer, is_taken, graph_lines, graph_verdict, schedule_lines, schedule_verdict, scheduler, slots_after, table_after}
 use Rattle.meaning.proofs.Taken.{Accepted, few-operations}
 use Rattle.meaning.proofs.TableFile.{row_first, row_mono, schedule-length}
+use Rattle.std.specs.Prelude.{Result, Ok, Err}
+use Rattle.refusals.specs.declared.Fault.{Fault}
+use Rattle.refusals.specs.Faults.{fault_verdict}
 use Rattle.scheduler.specs.declared.Scheduled.{Scheduled}
-use Rattle.scheduler.specs.declared.Scheduled.TheVariants.{Refused, Done}
 use Rattle.scheduler.specs.Slots.{Holds}
 use Rattle.scheduler.specs.Search.{Store}
 use Rattle.scheduler.specs.Rows.{Planning}
@@ -29,17 +31,16 @@ use Rattle.scheduler.specs.Promise.{values_of, Promised, Answered, later_lines, 
 use Rattle.scheduler.proofs.WriteLaws.{written-before}
 
 -- The number that is held with the start is its remaining number, or there is none.
-module _ (g : Graph) (a : Accepted g) (slots : List ℕ) (used number : ℕ) (store : Store g slots used) (held : Holds slots (machine_of g).start number) where
+module _ (g : Graph) (a : Accepted g) (slots : List ℕ) (number : ℕ) (store : Store g slots) (held : Holds slots (machine_of g).start number) where
   horizon : (machine_of g).horizon < missing
   horizon = omega (arith, few-operations a.within)
 
   pub start-number : number ≤ (machine_of g).horizon → number ≡ remaining (machine_of g) (machine_of g).start
   start-number h = sym (right-remaining (machine_of g) (machine_of g).start number (store.good.right (machine_of g).start number held) horizon h)
 
-  pub planning : number ≤ (machine_of g).horizon → Planning g slots used
+  pub planning : number ≤ (machine_of g).horizon → Planning g slots
   planning h =
       record {
-        accepted = a;
         store = store;
         start = (number, held);
         numbered = subst (λ (k : ℕ). k ≤ (machine_of g).horizon) (start-number h) h;
@@ -47,6 +48,19 @@ module _ (g : Graph) (a : Accepted g) (slots : List ℕ) (used number : ℕ) (st
 
   pub no_number : (machine_of g).horizon < number → (machine_of g).horizon < remaining (machine_of g) (machine_of g).start
   no_number h = omega (arith, right_missing (machine_of g) (machine_of g).start number (store.good.right (machine_of g).start number held) horizon h)
+
+-- What a test of one condition says: a fault that it holds, and success that it does not.
+pub refused-if : (k : ℕ) (b : Bool) (f : Fault) → fault_verdict f ≡ judge (placeless k b ∷ []) → (fault_verdict f ≡ refused k 0) × (b ≡ true)
+unfolding judge fault_verdict
+refused-if k true f e = (e ∙ placeless-fault k true [] tt, refl)
+refused-if k false f e = absurd (refused_not (sym (placeless_passes k false [] tt) ∙ sym e))
+  where
+    refused_not : taken ≡ fault_verdict f → ⊥
+    refused_not d = cc
+
+pub passed-if : (k : ℕ) (b : Bool) → taken ≡ judge (placeless k b ∷ []) → b ≡ false
+passed-if k false e = refl
+passed-if k true e = let d : taken ≡ refused k 0 = e ∙ placeless-fault k true [] tt in cc
 
 -- Refusals 12 to 14 in order.
 module _ (g : Graph) where
@@ -85,9 +99,9 @@ module _ (g : Graph) where
     nothing_left h = fourteen_left ∙ placeless_passes 14 (ltb room (length (schedule_file g))) [] (le→nltb room (length (schedule_file g)) h)
 
   -- the answer of a verdict
-  pub answered-refused : (lines : List Line) (states : ℕ) (t : List ℕ) (k p : ℕ) → judge lines ≡ refused k p → Answered g lines states t t (Refused k p)
-  unfolding values_of answer is_taken
-  answered-refused lines states t k p e =
+  pub answered-refused : (lines : List Line) (states : ℕ) (t : List ℕ) (f : Fault) → judge lines ≡ fault_verdict f → Answered g lines states t t (Err f)
+  unfolding values_of answer is_taken fault_verdict
+  answered-refused lines states t f e =
       record {
         answers = ap (λ (v : Verdict). answer v (remaining (machine_of g) (machine_of g).start) (length (schedule_rows (machine_of g))) states) (sym e);
         writes = ap (λ (v : Verdict). cond (is_taken v) (schedule_file g ++ drop (length (schedule_file g)) t) t) (sym e);
@@ -95,7 +109,7 @@ module _ (g : Graph) where
 
   pub answered-taken : (lines : List Line) (states cycles rows : ℕ) (t u : List ℕ) → judge lines ≡ taken
       → cycles ≡ remaining (machine_of g) (machine_of g).start → rows ≡ length (schedule_rows (machine_of g))
-      → u ≡ schedule_file g ++ drop (length (schedule_file g)) t → Answered g lines states t u (Done cycles rows states)
+      → u ≡ schedule_file g ++ drop (length (schedule_file g)) t → Answered g lines states t u (Ok (record { cycles = cycles; rows = rows; states = states }))
   unfolding values_of answer is_taken
   answered-taken lines states cycles rows t u e c r w =
       record {
@@ -105,7 +119,7 @@ module _ (g : Graph) where
       }
 
   -- the same answer for lines of the same verdict
-  pub answered-same : (lines more : List Line) (states total : ℕ) (t u : List ℕ) (r : Scheduled) → judge more ≡ judge lines → states ≡ total
+  pub answered-same : (lines more : List Line) (states total : ℕ) (t u : List ℕ) (r : Result Scheduled Fault) → judge more ≡ judge lines → states ≡ total
       → Answered g lines states t u r → Answered g more total t u r
   answered-same lines more states total t u r e n a =
       record {
@@ -139,9 +153,9 @@ module _ (g : Graph) where
 
 -- The promise for a file, by the reader's verdict.
 module _ (file slots table : List ℕ) where
-  pub promised_refused : (k p : ℕ) → graph_verdict file ≡ refused k p → Promised file slots table (Refused k p) slots table
-  unfolding values_of scheduler slots_after table_after answer is_taken
-  promised_refused k p e =
+  pub promised_refused : (f : Fault) → graph_verdict file ≡ fault_verdict f → Promised file slots table (Err f) slots table
+  unfolding values_of scheduler slots_after table_after answer is_taken fault_verdict
+  promised_refused f e =
       record {
         answers = ap (λ (v : Verdict). answer v (remaining M M.start) (length (schedule_rows M)) (state_count M)) (sym verdict);
         clears = ap (λ (v : Verdict). cond (is_taken v) (replicate (length slots) 0) slots) (sym e);
@@ -151,12 +165,12 @@ module _ (file slots table : List ℕ) where
       M : Machine
       M = machine_of (content file)
 
-      verdict : schedule_verdict file slots table ≡ refused k p
+      verdict : schedule_verdict file slots table ≡ fault_verdict f
       verdict =
-          unfold schedule_verdict graph_verdict otherwise in judge-append (graph_lines file) (schedule_lines (content file) (length slots) (length table))
+          unfold schedule_verdict graph_verdict otherwise fault_verdict in judge-append (graph_lines file) (schedule_lines (content file) (length slots) (length table))
           ∙ ap (λ (v : Verdict). otherwise v (judge (schedule_lines (content file) (length slots) (length table)))) e
 
-  pub promised_taken : (slots_last table_last : List ℕ) (r : Scheduled) → graph_verdict file ≡ taken
+  pub promised_taken : (slots_last table_last : List ℕ) (r : Result Scheduled Fault) → graph_verdict file ≡ taken
       → Answered (content file) (schedule_lines (content file) (length slots) (length table)) (state_count (machine_of (content file))) table table_last r
       → slots_last ≡ replicate (length slots) 0 → Promised file slots table r slots_last table_last
   unfolding scheduler slots_after table_after is_taken

@@ -1,7 +1,7 @@
 -- Choosing a step: which steps attain a bound, and that the first which attains the remaining number less one is the chosen
 -- one. Assumes nothing.
 use Prim.Native.Nat.{ℕ, ◌+◌, ◌-◌, ◌^◌, ◌≤◌, ◌<◌, zero-le}
-use native.Mathlib.Nat.{lt_irrefl, lt_of_lt_of_le}
+use native.Mathlib.Nat.{lt_irrefl, not-suc-le-zero}
 use native.Mathlib.Omega.{arith}
 use mathlib.Core.Path.{◌≡◌, sym, ◌∙◌, subst}
 use mathlib.Core.Logic.{⊎_elim}
@@ -17,7 +17,7 @@ use Rattle.machine.proofs.Finish.{leads_of, leads-next, leads-legal, best-first}
 use Rattle.machine.proofs.Search.{missing, Right, right-remaining, right_missing}
 use Rattle.meaning.specs.Graph.{Graph, control_count}
 use Rattle.meaning.specs.Steps.{State, machine_of, complete, legal, after}
-use Rattle.meaning.proofs.Taken.{few-operations}
+use Rattle.meaning.proofs.Taken.{Accepted, few-operations}
 use Rattle.steps.specs.Forks.{begun, fork_of, falls}
 use Rattle.steps.proofs.After.{begun-below, falls_part}
 use Rattle.scheduler.specs.Slots.{Holds}
@@ -31,13 +31,12 @@ abbrev pub Attained : Graph → State → ℕ → ℕ → ℕ → Type 0
 Attained g s x bound word =
     (v : ℕ) → v < 2 ^ control_count g → T (passed (begun g s.done x) word v) → T (finish (machine_of g) bound (after g s x v))
 
--- The steps below `step` do not lead to states that finish within the bound.
-pub record Passed (g : Graph) (s : State) (bound step : ℕ) : Type 0 where
-  pub within : step ≤ (machine_of g).steps
-  pub lawful : step < (machine_of g).steps → T (legal g s step)
-  pub below : (x : ℕ) → x < step → T (not (leads (machine_of g) (finish (machine_of g) bound) s x))
+-- The steps below `from` do not lead to states that finish within the bound.
+pub record Passed (g : Graph) (s : State) (bound from : ℕ) : Type 0 where
+  pub within : from ≤ (machine_of g).steps
+  pub below : (x : ℕ) → x < from → T (not (leads (machine_of g) (finish (machine_of g) bound) s x))
 
-module _ (g : Graph) (slots : List ℕ) (used : ℕ) (s : State) (c : Choosing g slots used s) where
+module _ (g : Graph) (accepted : Accepted g) (slots : List ℕ) (s : State) (c : Choosing g slots s) where
   right : (r : State) (n : ℕ) → Holds slots r n → Right (machine_of g) r n
   right = c.store.good.right
 
@@ -61,10 +60,10 @@ module _ (g : Graph) (slots : List ℕ) (used : ℕ) (s : State) (c : Choosing g
         → Holds slots (after g s x word) n → n ≤ bound → Attained g s x bound (word + 1)
     unfolding fork_of
     attained_next word n a h o held k v l t =
-        let low : word < 2 ^ 32 = word_low g s c.accepted word (word_below word h) in
+        let low : word < 2 ^ 32 = word_low g s accepted word (word_below word h) in
         ⊎_elim (a v l)
         (λ (e : bit_and v (begun g s.done x) ≡ word). subst (λ (r : State). T (finish (machine_of g) bound r))
-        (sym (same_part g s x v word (word_low g s c.accepted v l) low (e ∙ sym (falls_part (fork_of g s x) word low o))))
+        (sym (same_part g s x v word (word_low g s accepted v l) low (e ∙ sym (falls_part (fork_of g s x) word low o))))
         (of_true ((right (after g s x word) n held).exact bound small ∙ le-leb n bound k)))
         (passed-only (begun g s.done x) word v t)
 
@@ -90,7 +89,7 @@ module _ (g : Graph) (slots : List ℕ) (used : ℕ) (s : State) (c : Choosing g
         (λ (h : 0 < n). h) (le-or-lt n 0)
 
     horizon : (machine_of g).horizon < missing
-    horizon = omega (arith, few-operations c.accepted.within)
+    horizon = omega (arith, few-operations accepted.within)
 
     number_small : n ≤ (machine_of g).horizon
     number_small =
@@ -119,27 +118,35 @@ module _ (g : Graph) (slots : List ℕ) (used : ℕ) (s : State) (c : Choosing g
         refuted (leads (machine_of g) (finish (machine_of g) (n - 1)) s x)
         (λ u. contrary (legal g s x) (leads-legal (machine_of g) (finish (machine_of g) (n - 1)) s x u) t)
 
-    pub passed_start : (y : ℕ) → StepFrom g s 0 y → Passed g s (n - 1) y
-    passed_start y next =
-        record { within = next.within; lawful = next.lawful; below = λ x h. not-lawful x (next.between x zero-le h) }
+    pub passed_start : Passed g s (n - 1) 0
+    passed_start = record { within = zero-le; below = λ x h. absurd (not-suc-le-zero h) }
 
-    pub passed-next : (x y : ℕ) → Passed g s (n - 1) x → false ≡ leads (machine_of g) (finish (machine_of g) (n - 1)) s x → StepFrom g s (x + 1) y → Passed g s (n - 1) y
-    passed-next x y p e next = record { within = next.within; lawful = next.lawful; below = below }
+    -- no step below the next one leads there
+    before : (from x : ℕ) → Passed g s (n - 1) from → ((z : ℕ) → from ≤ z → z < x → T (not (legal g s z)))
+        → (z : ℕ) → z < x → T (not (leads (machine_of g) (finish (machine_of g) (n - 1)) s z))
+    before from x p none z h =
+        ⊎_elim (λ (k : from ≤ z). not-lawful z (none z k h)) (λ (k : z < from). p.below z k) (le-or-lt from z)
+
+    pub passed-next : (from x : ℕ) → Passed g s (n - 1) from → StepFrom g s from x
+        → false ≡ leads (machine_of g) (finish (machine_of g) (n - 1)) s x → Passed g s (n - 1) (x + 1)
+    passed-next from x p next e = record { within = omega (arith, next.within); below = below }
       where
-        below : (z : ℕ) → z < y → T (not (leads (machine_of g) (finish (machine_of g) (n - 1)) s z))
+        below : (z : ℕ) → z < x + 1 → T (not (leads (machine_of g) (finish (machine_of g) (n - 1)) s z))
         below z h =
             ⊎_elim (λ (k : z ≡ x). subst (λ (i : ℕ). T (not (leads (machine_of g) (finish (machine_of g) (n - 1)) s i))) (sym k) (of_false (sym e)))
-            (⊎_elim (λ (k : z < x). p.below z k) (λ (k : x < z). not-lawful z (next.between z (omega arith) h)))
+            (⊎_elim (λ (k : z < x). before from x p next.between z k) (λ (k : x < z). absurd (omega arith)))
             (trichotomy z x)
 
     -- so the first that does is the chosen one, and there is one
-    pub passed_found : (x : ℕ) → Passed g s (n - 1) x → x < (machine_of g).steps → true ≡ leads (machine_of g) (finish (machine_of g) (n - 1)) s x → x ≡ best (machine_of g) s
+    pub passed_found : (from x : ℕ) → Passed g s (n - 1) from → StepFrom g s from x
+        → true ≡ leads (machine_of g) (finish (machine_of g) (n - 1)) s x → x ≡ best (machine_of g) s
     unfolding attains
-    passed_found x p h e =
-        sym (first_unique (machine_of g).steps attains x (record { below = h; holds = of_true (sym e); least = p.below }))
+    passed_found from x p next e =
+        sym (first_unique (machine_of g).steps attains x (record { below = next.within; holds = of_true (sym e); least = before from x p next.between }))
         ∙ first_unique (machine_of g).steps attains (best (machine_of g) s) first
 
-    pub passed_some : (x : ℕ) → Passed g s (n - 1) x → (machine_of g).steps ≤ x → ⊥
+    pub passed_some : (from : ℕ) → Passed g s (n - 1) from → ((z : ℕ) → from ≤ z → z < (machine_of g).steps → T (not (legal g s z))) → ⊥
     unfolding attains
-    passed_some x p h =
-        contrary (attains (best (machine_of g) s)) first.holds (p.below (best (machine_of g) s) (lt_of_lt_of_le first.below h))
+    passed_some from p none =
+        contrary (attains (best (machine_of g) s)) first.holds
+        (before from (machine_of g).steps p none (best (machine_of g) s) first.below)

@@ -11,6 +11,7 @@ use mathlib.Core.List.{List, ◌++◌}
 use lib.ListN.{length, take, drop}
 use lib.Seq.{take_at}
 use lib.Dec.{T}
+use Rattle.std.specs.Prelude.{Result, Ok, Err}
 use Rattle.machine.specs.Refusals.{Verdict, taken, refused}
 use Rattle.machine.specs.Machine.{Machine, finish, remaining, run, state_count}
 use Rattle.machine.specs.Tables.{schedule_rows}
@@ -27,22 +28,31 @@ use Rattle.meaning.proofs.TableFile.{file-cycles, schedule-length, schedule_eigh
 use Rattle.meaning.proofs.Demands.{SomeAccepted, NoneAccepted, twelve_means, thirteen_means, fourteen_means, success_means, lawful_in, schedule_bytes, room-enough, none_at_all, some_accepted, none_accepted, schedule_exactly, schedule_shortest}
 use Rattle.meaning.proofs.Certain.{certain_found, certain-least}
 use Rattle.meaning.proofs.Idling.{prescribed_in, AllPermitted, AllComplete, idling-within, idling_ended, idling_long}
+use Rattle.refusals.specs.declared.Fault.{Fault}
+use Rattle.refusals.specs.declared.Refusal.{Refusal}
+use Rattle.refusals.specs.declared.Refusal.TheVariants.{Slots, Unschedulable, Room}
+use Rattle.refusals.specs.Faults.{number_of, fault_verdict, verdict_of}
+use Rattle.refusals.proofs.Unique.{fault_of, fault_back}
 use Rattle.scheduler.specs.declared.Scheduled.{Scheduled}
-use Rattle.scheduler.specs.declared.Scheduled.TheVariants.{Refused, Done}
 use Rattle.scheduler.specs.Promise.{values_of, Promised}
 
 -- the answer that has the values
-answer_of : Verdict → Answer → Scheduled
-answer_of taken v = Done v.cycles v.rows v.states
-answer_of (refused k p) v = Refused k p
+answer_of : Verdict → Answer → Result Scheduled Fault
+answer_of taken v = Ok (record { cycles = v.cycles; rows = v.rows; states = v.states })
+answer_of (refused k p) v = Err (fault_of (refused k p))
 
-answer_back : (r : Scheduled) → answer_of (values_of r).verdict (values_of r) ≡ r
-unfolding answer_of values_of
-answer_back (Refused k p) = refl
-answer_back (Done c n k) = refl
+answer_back : (r : Result Scheduled Fault) → answer_of (values_of r).verdict (values_of r) ≡ r
+unfolding answer_of values_of fault_verdict
+answer_back (Err f) = ap (λ (g : Fault). Err g) (fault_back f)
+answer_back (Ok s) = refl
+
+verdict-same : (r : Result Scheduled Fault) → verdict_of r ≡ (values_of r).verdict
+unfolding values_of verdict_of
+verdict-same (Err f) = refl
+verdict-same (Ok s) = refl
 
 -- Two outcomes that the promise allows are equal.
-pub one_outcome : (file slots table : List ℕ) (r q : Scheduled) (slots_last slots_other table_last table_other : List ℕ)
+pub one_outcome : (file slots table : List ℕ) (r q : Result Scheduled Fault) (slots_last slots_other table_last table_other : List ℕ)
     → Promised file slots table r slots_last table_last → Promised file slots table q slots_other table_other
     → (r ≡ q) × (slots_last ≡ slots_other) × (table_last ≡ table_other)
 one_outcome file slots table r q slots_last slots_other table_last table_other a b = (
@@ -57,14 +67,18 @@ answer-verdict taken c n k = refl
 answer-verdict (refused x y) c n k = refl
 
 -- What a call has answered.
-module _ (file slots table : List ℕ) (r : Scheduled) (slots_last table_last : List ℕ) (p : Promised file slots table r slots_last table_last) where
+module _ (file slots table : List ℕ) (r : Result Scheduled Fault) (slots_last table_last : List ℕ) (p : Promised file slots table r slots_last table_last) where
   -- the machine of the graph that the file holds
   abbrev M : Machine
   M = machine_of (content file)
 
   -- a success, with the schedule's cycles and rows and the reachable states
-  abbrev success : Scheduled
-  success = Done (remaining M M.start) (length (schedule_rows M)) (state_count M)
+  abbrev success : Result Scheduled Fault
+  success = Ok (record { cycles = remaining M M.start; rows = length (schedule_rows M); states = state_count M })
+
+  -- a refusal that names no place
+  abbrev refusal : Refusal → Result Scheduled Fault
+  refusal k = Err (record { refusal = k; place = 0 })
 
   verdict_is : (values_of r).verdict ≡ schedule_verdict file slots table
   unfolding scheduler
@@ -73,71 +87,92 @@ module _ (file slots table : List ℕ) (r : Scheduled) (slots_last table_last : 
       ∙ answer-verdict (schedule_verdict file slots table) (remaining M M.start) (length (schedule_rows M)) (state_count M)
 
   -- the answer is the verdict's
-  refusal_is : (k q : ℕ) → (r ≡ Refused k q) ↔ (schedule_verdict file slots table ≡ refused k q)
-  unfolding values_of answer_of
-  refusal_is k q = (
-    λ e. sym verdict_is ∙ ap (λ (s : Scheduled). (values_of s).verdict) e,
-    λ v. sym (answer_back r) ∙ ap (λ (w : Verdict). answer_of w (values_of r)) (verdict_is ∙ v),
+  refusal_is : (f : Fault) → (r ≡ Err f) ↔ (schedule_verdict file slots table ≡ fault_verdict f)
+  unfolding values_of answer_of fault_verdict
+  refusal_is f = (
+    λ e. sym verdict_is ∙ ap (λ (s : Result Scheduled Fault). (values_of s).verdict) e,
+    λ v. sym (answer_back r) ∙ ap (λ (w : Verdict). answer_of w (values_of r)) (verdict_is ∙ v) ∙ ap (λ (g : Fault). Err g) (fault_back f),
   )
+
+  twelve_is : (r ≡ refusal Slots) ↔ (schedule_verdict file slots table ≡ refused 12 0)
+  unfolding fault_verdict number_of
+  twelve_is = refusal_is (record { refusal = Slots; place = 0 })
+
+  thirteen_is : (r ≡ refusal Unschedulable) ↔ (schedule_verdict file slots table ≡ refused 13 0)
+  unfolding fault_verdict number_of
+  thirteen_is = refusal_is (record { refusal = Unschedulable; place = 0 })
+
+  fourteen_is : (r ≡ refusal Room) ↔ (schedule_verdict file slots table ≡ refused 14 0)
+  unfolding fault_verdict number_of
+  fourteen_is = refusal_is (record { refusal = Room; place = 0 })
 
   success_is : (r ≡ success) ↔ (schedule_verdict file slots table ≡ taken)
   unfolding values_of answer_of scheduler answer
   success_is = (
-    λ e. sym verdict_is ∙ ap (λ (s : Scheduled). (values_of s).verdict) e,
+    λ e. sym verdict_is ∙ ap (λ (s : Result Scheduled Fault). (values_of s).verdict) e,
     λ v. sym (answer_back r) ∙ ap (λ (a : Answer). answer_of a.verdict a) p.answers
         ∙ ap (λ (w : Verdict). let a = answer w (remaining M M.start) (length (schedule_rows M)) (state_count M) in answer_of a.verdict a) v,
   )
 
   -- A refusal is given exactly by the refusal table: its line is at fault at that place first, and no earlier line anywhere.
   pub refuses_exactly : (k q : ℕ)
-      → (r ≡ Refused k q) ↔ Given k q (graph_lines file ++ schedule_lines (content file) (length slots) (length table))
+      → (verdict_of r ≡ refused k q) ↔ Given k q (graph_lines file ++ schedule_lines (content file) (length slots) (length table))
   unfolding schedule_verdict
   refuses_exactly k q =
-      Iff.trans (refusal_is k q) (judge-refused (graph_lines file ++ schedule_lines (content file) (length slots) (length table)) k q)
+      Iff.trans (λ e. sym (verdict-same r ∙ verdict_is) ∙ e, λ e. verdict-same r ∙ verdict_is ∙ e)
+      (judge-refused (graph_lines file ++ schedule_lines (content file) (length slots) (length table)) k q)
+
+  -- So is each fault, by its number and place.
+  pub faults_exactly : (f : Fault)
+      → (r ≡ Err f) ↔ Given (number_of f.refusal) f.place (graph_lines file ++ schedule_lines (content file) (length slots) (length table))
+  unfolding schedule_verdict fault_verdict
+  faults_exactly f =
+      Iff.trans (refusal_is f)
+      (judge-refused (graph_lines file ++ schedule_lines (content file) (length slots) (length table)) (number_of f.refusal) f.place)
 
   -- 12 is given exactly when the graph is taken and there are fewer slots than reachable states.
-  pub twelve_exactly : (r ≡ Refused 12 0) ↔ ((graph_verdict file ≡ taken) × (length slots < state_count M))
-  twelve_exactly = Iff.trans (refusal_is 12 0) (twelve_means file slots table)
+  pub twelve_exactly : (r ≡ refusal Slots) ↔ ((graph_verdict file ≡ taken) × (length slots < state_count M))
+  twelve_exactly = Iff.trans twelve_is (twelve_means file slots table)
 
   -- 13 is given exactly when the graph is taken, the slots are enough and no table is accepted.
-  pub thirteen_exactly : (r ≡ Refused 13 0) ↔ ((graph_verdict file ≡ taken) × (state_count M ≤ length slots) × NoneAccepted file)
+  pub thirteen_exactly : (r ≡ refusal Unschedulable) ↔ ((graph_verdict file ≡ taken) × (state_count M ≤ length slots) × NoneAccepted file)
   thirteen_exactly =
-      let means = Iff.trans (refusal_is 13 0) (thirteen_means file slots table) in (
+      let means = Iff.trans thirteen_is (thirteen_means file slots table) in (
         λ e. let q = means.0 e in (q.0, q.1.0, (none_accepted file q.0).0 q.1.1),
         λ q. means.1 (q.0, (q.1, (none_accepted file q.0).1 q.2)),
       )
 
   -- It is given only when no list at all is accepted, of bytes or not, and whenever no table is, if the graph is taken and
   -- the slots are enough.
-  pub thirteen_only : r ≡ Refused 13 0 → (other : List ℕ) → check_verdict file other ≢ taken
+  pub thirteen_only : r ≡ refusal Unschedulable → (other : List ℕ) → check_verdict file other ≢ taken
   thirteen_only e =
-      let q = (Iff.trans (refusal_is 13 0) (thirteen_means file slots table)).0 e in none_at_all file q.0 q.1.1
+      let q = (Iff.trans thirteen_is (thirteen_means file slots table)).0 e in none_at_all file q.0 q.1.1
 
-  pub thirteen_given : graph_verdict file ≡ taken → state_count M ≤ length slots → NoneAccepted file → r ≡ Refused 13 0
+  pub thirteen_given : graph_verdict file ≡ taken → state_count M ≤ length slots → NoneAccepted file → r ≡ refusal Unschedulable
   thirteen_given g h none = thirteen_exactly.1 (g, h, none)
 
   -- Never for a graph with no follow arc and no limit of 0 on a class in use, whatever slots and buffer are lent.
-  pub certain_never_thirteen : T (certain (content file)) → r ≢ Refused 13 0
+  pub certain_never_thirteen : T (certain (content file)) → r ≢ refusal Unschedulable
   certain_never_thirteen c e =
-      let q = (thirteen_means file slots table).0 ((refusal_is 13 0).0 e) in not-le_of_lt q.1.1 (certain_found file q.0 c)
+      let q = (thirteen_means file slots table).0 (thirteen_is.0 e) in not-le_of_lt q.1.1 (certain_found file q.0 c)
 
   -- Where it is given, empty steps would not help either: with them permitted the start cannot be brought to complete within
   -- any number of cycles, and the runs of no table with empty steps are ever all complete.
-  pub thirteen_idling : r ≡ Refused 13 0 → (t : ℕ) → T (not (finish (idling_of (content file)) t M.start))
+  pub thirteen_idling : r ≡ refusal Unschedulable → (t : ℕ) → T (not (finish (idling_of (content file)) t M.start))
   thirteen_idling e t =
-      let q = (thirteen_means file slots table).0 ((refusal_is 13 0).0 e) in
+      let q = (thirteen_means file slots table).0 (thirteen_is.0 e) in
       refuted (finish (idling_of (content file)) t M.start) (λ h. not-le_of_lt q.1.1 (idling-within file q.0 t h).0)
 
-  pub thirteen_idling_tables : r ≡ Refused 13 0 → (other : List ℕ) → AllPermitted (content file) other → (t : ℕ) → ¬ AllComplete (content file) other t
+  pub thirteen_idling_tables : r ≡ refusal Unschedulable → (other : List ℕ) → AllPermitted (content file) other → (t : ℕ) → ¬ AllComplete (content file) other t
   thirteen_idling_tables e other legal t ends =
-      let q = (thirteen_means file slots table).0 ((refusal_is 13 0).0 e) in not-le_of_lt q.1.1 (idling_ended file q.0 other legal t ends).0
+      let q = (thirteen_means file slots table).0 (thirteen_is.0 e) in not-le_of_lt q.1.1 (idling_ended file q.0 other legal t ends).0
 
   -- 14 is given exactly when the graph is taken, the slots are enough, a table is accepted, and the buffer is shorter than
   -- the schedule's file, which has 8 + 8r bytes for its r rows.
-  pub fourteen_exactly : (r ≡ Refused 14 0)
+  pub fourteen_exactly : (r ≡ refusal Room)
       ↔ ((graph_verdict file ≡ taken) × (state_count M ≤ length slots) × SomeAccepted file × (length table < length (schedule_file (content file))))
   fourteen_exactly =
-      let means = Iff.trans (refusal_is 14 0) (fourteen_means file slots table) in (
+      let means = Iff.trans fourteen_is (fourteen_means file slots table) in (
         λ e. let q = means.0 e in (q.0, q.1.0, (some_accepted file q.0).0 q.1.1.0, q.1.1.1),
         λ q. means.1 (q.0, (q.1, ((some_accepted file q.0).1 q.2, q.3))),
       )
@@ -166,10 +201,10 @@ module _ (file slots table : List ℕ) (r : Scheduled) (slots_last table_last : 
     certain-roomy c room = (succeeds_roomy room).1 ((some_accepted file graph).0 (certain_found file graph c))
 
   -- a success
-  module _ (cycles rows states : ℕ) (e : r ≡ Done cycles rows states) where
+  module _ (cycles rows states : ℕ) (e : r ≡ Ok (record { cycles = cycles; rows = rows; states = states })) where
     verdict-taken : schedule_verdict file slots table ≡ taken
     unfolding values_of
-    verdict-taken = sym verdict_is ∙ ap (λ (q : Scheduled). (values_of q).verdict) e
+    verdict-taken = sym verdict_is ∙ ap (λ (q : Result Scheduled Fault). (values_of q).verdict) e
 
     -- what has passed then
     graph : graph_verdict file ≡ taken
@@ -187,15 +222,15 @@ module _ (file slots table : List ℕ) (r : Scheduled) (slots_last table_last : 
 
     cycles_are : cycles ≡ remaining M M.start
     unfolding values_of
-    cycles_are = ap (λ (q : Scheduled). (values_of q).cycles) (sym e ∙ counts-answered)
+    cycles_are = ap (λ (q : Result Scheduled Fault). (values_of q).cycles) (sym e ∙ counts-answered)
 
     rows_are : rows ≡ length (schedule_rows M)
     unfolding values_of
-    rows_are = ap (λ (q : Scheduled). (values_of q).rows) (sym e ∙ counts-answered)
+    rows_are = ap (λ (q : Result Scheduled Fault). (values_of q).rows) (sym e ∙ counts-answered)
 
     states_are : states ≡ state_count M
     unfolding values_of
-    states_are = ap (λ (q : Scheduled). (values_of q).states) (sym e ∙ counts-answered)
+    states_are = ap (λ (q : Result Scheduled Fault). (values_of q).states) (sym e ∙ counts-answered)
 
     -- the first bytes of the buffer, as many as a table of so many rows has, are the schedule's file
     written-file : take (row_start (content file).edition (suc rows)) table_last ≡ schedule_file (content file)

@@ -12,46 +12,40 @@ use lib.ListN.{length, set, replicate, get_or-replicate, length-set, length-appe
 use lib.Seq.{get_or-set_same, get_or-set_other}
 use lib.Dec.{T, eqb}
 use lib.Pow.{pow_mono}
-use borrow.Author.Tests.{eq-eqb}
+use borrow.Author.Tests.{eq-eqb, ne_eqb}
 use Rattle.machine.specs.Sets.{list_below}
 use Rattle.machine.specs.Machine.{Reachable, begin, step, remaining, best, run}
 use Rattle.machine.specs.Tables.{Row, schedule_rows}
 use Rattle.machine.proofs.Truth.{decided, true_of, false_of}
 use Rattle.machine.proofs.Sets.{below-cases, list_length}
-use Rattle.machine.proofs.Finish.{later, remaining-least, best-legal, best_finishes}
+use Rattle.machine.proofs.Finish.{remaining-least, best-legal, best_finishes}
 use Rattle.machine.proofs.Search.{good-all}
 use Rattle.meaning.specs.Graph.{Graph, control_count}
 use Rattle.meaning.specs.Steps.{State, machine_of, complete, after}
 use Rattle.meaning.specs.TableFile.{row_bytes, row_start, row_file, row_files}
 use Rattle.meaning.proofs.TableFile.{row-end, row_mono, rows-length}
-use Rattle.steps.specs.declared.State.{State as Fields}
-use Rattle.steps.specs.States.{state_of}
+use Rattle.parts.specs.declared.State.{State as Fields}
+use Rattle.parts.specs.Fields.{state_of}
+use Rattle.scheduler.specs.declared.table.Rows.{Rows}
 use Rattle.scheduler.specs.Slots.{Holds}
 use Rattle.scheduler.specs.Writing.{written}
-use Rattle.scheduler.specs.Rows.{Choosing, Planning, met, state_at, Meets, row_of, cycle_rows, Laid, Room}
-use Rattle.scheduler.proofs.WriteLaws.{written_none, written_then, written-length}
+use Rattle.scheduler.specs.Rows.{Choosing, Planning, met, state_at, Meets, row_of, cycle_rows, Laid, Lays}
+use Rattle.scheduler.proofs.WriteLaws.{written_none, written_then}
 
 module _ (g : Graph) where
   -- where the row behind so many others stands
   abbrev behind : ℕ → ℕ
   behind rows = row_start g.edition (suc rows)
 
-  pub laid_none : (writing : Bool) (t : List ℕ) (rows : ℕ) → Laid g writing t t rows rows []
+  pub laid_none : (t : List ℕ) (rows : ℕ) → Laid g t t rows rows []
   unfolding row_files
-  laid_none writing t rows = record { count = sym (add-zero rows); table = kept writing }
-    where
-      kept : (b : Bool) → t ≡ cond b (written t (behind rows) []) t
-      kept true = sym (written_none t (behind rows))
-      kept false = refl
+  laid_none t rows = record { count = sym (add-zero rows); same_length = refl; table = λ h. sym (written_none t (behind rows)) }
 
-  pub laid_counted : (t : List ℕ) (rows : ℕ) (r : Row (machine_of g)) → Laid g false t t rows (rows + 1) (r ∷ [])
-  laid_counted t rows r = record { count = refl; table = refl }
-
-  pub laid-written : (t u : List ℕ) (rows : ℕ) (r : Row (machine_of g)) → u ≡ written t (behind rows) (row_file g r)
-      → Laid g true t u rows (rows + 1) (r ∷ [])
+  pub laid-one : (t u : List ℕ) (rows : ℕ) (r : Row (machine_of g)) → length u ≡ length t
+      → (behind (rows + 1) ≤ length t → u ≡ written t (behind rows) (row_file g r)) → Laid g t u rows (rows + 1) (r ∷ [])
   unfolding row_files
-  laid-written t u rows r e =
-      record { count = refl; table = e ∙ ap (written t (behind rows)) (sym (append-nil (row_file g r))) }
+  laid-one t u rows r k e =
+      record { count = refl; same_length = k; table = λ h. e h ∙ ap (written t (behind rows)) (sym (append-nil (row_file g r))) }
 
   files_append : (l m : List (Row (machine_of g))) → row_files g (l ++ m) ≡ row_files g l ++ row_files g m
   unfolding row_files
@@ -66,59 +60,44 @@ module _ (g : Graph) where
       (omega arith)
 
   -- rows behind rows
-  laid_then : (writing : Bool) (a b c : List ℕ) (rows more most : ℕ) (l m : List (Row (machine_of g)))
-      → Laid g writing a b rows more l → Laid g writing b c more most m → Room writing g.edition a (rows + length l)
-      → Laid g writing a c rows most (l ++ m)
-  laid_then writing a b c rows more most l m p q room = record { count = omega (arith, p.count, q.count, length-append l m); table = both writing p.table q.table room }
+  pub laid_then : (a b c : List ℕ) (rows more most : ℕ) (l m : List (Row (machine_of g)))
+      → Laid g a b rows more l → Laid g b c more most m → Laid g a c rows most (l ++ m)
+  laid_then a b c rows more most l m p q =
+      record { count = omega (arith, p.count, q.count, both); same_length = q.same_length ∙ p.same_length; table = on }
     where
-      both : (w : Bool) → b ≡ cond w (written a (behind rows) (row_files g l)) a → c ≡ cond w (written b (behind more) (row_files g m)) b
-          → Room w g.edition a (rows + length l) → c ≡ cond w (written a (behind rows) (row_files g (l ++ m))) a
-      both true d e k =
+      both : length (l ++ m) ≡ length l + length m
+      both = length-append l m
+
+      on : behind (rows + length (l ++ m)) ≤ length a → c ≡ written a (behind rows) (row_files g (l ++ m))
+      on h =
+          let first : behind (rows + length l) ≤ length a = le_trans (row_mono g.edition (rows + length l) (rows + length (l ++ m)) (omega (arith, both))) h in
+          let all : behind (more + length m) ≤ length b =
+          le_trans (row_mono g.edition (more + length m) (rows + length (l ++ m)) (omega (arith, both, p.count)))
+          (subst (λ (n : ℕ). behind (rows + length (l ++ m)) ≤ n) (sym p.same_length) h) in
           let there : behind more ≡ behind rows + length (row_files g l) = ap behind p.count ∙ sym (files_end rows l) in
-          written_then a b c (behind rows) (behind more) (row_files g l) (row_files g m) d e there
-          (subst (λ (n : ℕ). n ≤ length a) (sym (files_end rows l)) (k tt))
+          written_then a b c (behind rows) (behind more) (row_files g l) (row_files g m) (p.table first) (q.table all) there
+          (subst (λ (n : ℕ). n ≤ length a) (sym (files_end rows l)) first)
           ∙ ap (written a (behind rows)) (sym (files_append l m))
-      both false d e k = e ∙ d
 
--- the length of the buffer stays, where there is room
-pub laid-length : (g : Graph) (writing : Bool) (a b : List ℕ) (rows more : ℕ) (l : List (Row (machine_of g))) → Laid g writing a b rows more l
-    → Room writing g.edition a (rows + length l) → length b ≡ length a
-laid-length g writing a b rows more l p room = ap length p.table ∙ same writing room
-  where
-    same : (w : Bool) → Room w g.edition a (rows + length l)
-        → length (cond w (written a (row_start g.edition (suc rows)) (row_files g l)) a) ≡ length a
-    same true k =
-        written-length a (row_start g.edition (suc rows)) (row_files g l)
-        (subst (λ (n : ℕ). n ≤ length a) (sym (files_end g rows l)) (k tt))
-    same false k = refl
-
--- a longer list below a bound
-list_grows {ℓ} : {A : Type ℓ} (f : ℕ → List A) (i n : ℕ) → i ≤ n → length (list_below i f) ≤ length (list_below n f)
-unfolding list_below
-list_grows f i n h = later (λ k. length (list_below i f) ≤ length (list_below k f)) (λ k l. le_trans l (omega (arith, length-append (list_below k f) (f k)))) i n h (le_refl (length (list_below i f)))
-
--- Rows that are laid in turns: those of f below i, and then those of f i.
-module _ (g : Graph) (f : ℕ → List (Row (machine_of g))) (n i : ℕ) (h : i < n) (writing : Bool) (a b : List ℕ) (rows more : ℕ)
-    (p : Laid g writing a b rows more (list_below i f)) (room : Room writing g.edition a (rows + length (list_below n f))) where
-  one_more : length (list_below i f) + length (f i) ≤ length (list_below n f)
+  -- rows that are laid in turns: those of f below i, and then those of f i
+  pub laid-turn : (f : ℕ → List (Row (machine_of g))) (i : ℕ) (a b c : List ℕ) (rows more most : ℕ) → Laid g a b rows more (list_below i f)
+      → Laid g b c more most (f i) → Laid g a c rows most (list_below (i + 1) f)
   unfolding list_below
-  one_more = omega (arith, list_grows f (suc i) n h, length-append (list_below i f) (f i))
+  laid-turn f i a b c rows more most p q =
+      subst (λ (k : ℕ). Laid g a c rows most (list_below k f)) (sym (add-one i)) (laid_then a b c rows more most (list_below i f) (f i) p q)
 
-  -- there is room for fewer rows
-  room_for : (k : ℕ) → k ≤ rows + length (list_below n f) → Room writing g.edition a k
-  room_for k l t = le_trans (row_mono g.edition k (rows + length (list_below n f)) l) (room t)
+  -- the same, of the rows in a lent buffer
+  pub lays_none : (r : Rows) → Lays g r r []
+  lays_none r = record { lent = refl; edition = refl; laid = laid_none r.table.now r.count }
 
-  pub turn_room : Room writing g.edition b (more + length (f i))
-  turn_room t =
-      subst (λ (k : ℕ). row_start g.edition (suc (more + length (f i))) ≤ k)
-      (sym (laid-length g writing a b rows more (list_below i f) p (room_for (rows + length (list_below i f)) (omega (arith, one_more)))))
-      (room_for (more + length (f i)) (omega (arith, one_more, p.count)) t)
-
-  pub turn_laid : (c : List ℕ) (most : ℕ) → Laid g writing b c more most (f i) → Laid g writing a c rows most (list_below (i + 1) f)
-  unfolding list_below
-  turn_laid c most q =
-      subst (λ (k : ℕ). Laid g writing a c rows most (list_below k f)) (sym (add-one i))
-      (laid_then g writing a b c rows more most (list_below i f) (f i) p q (room_for (rows + length (list_below i f)) (omega (arith, one_more))))
+  pub lays-turn : (f : ℕ → List (Row (machine_of g))) (i : ℕ) (a b c : Rows) → Lays g a b (list_below i f) → Lays g b c (f i)
+      → Lays g a c (list_below (i + 1) f)
+  lays-turn f i a b c p q =
+      record {
+        lent = q.lent ∙ p.lent;
+        edition = q.edition ∙ p.edition;
+        laid = laid-turn f i a.table.now b.table.now c.table.now a.count b.count c.count p.laid q.laid;
+      }
 
 -- a choice by two tests, the second of which is known
 module _ {ℓ} {A : Type ℓ} where
@@ -157,7 +136,7 @@ module _ (g : Graph) (t w : ℕ) where
       (record { cycle = suc t; state = met g t w; step = best (machine_of g) (met g t w) } ∷ []) [] n
 
 -- Every state of the schedule is reachable and has a remaining number.
-module _ (g : Graph) (slots : List ℕ) (used : ℕ) (p : Planning g slots used) where
+module _ (g : Graph) (slots : List ℕ) (p : Planning g slots) where
   record Known (s : State) : Type 0 where
     reachable : Reachable (machine_of g) s
     numbered : remaining (machine_of g) s ≤ (machine_of g).horizon
@@ -183,10 +162,9 @@ module _ (g : Graph) (slots : List ℕ) (used : ℕ) (p : Planning g slots used)
           (λ (n : T (not (complete g (met g t w)))). subst Known (sym (met-clock g t w n)) (known_next (met g t w) w h k n))
           (decided (complete g (met g t w)))
 
-  pub met-choosing : (t w : ℕ) → w < 2 ^ control_count g → T (not (complete g (met g t w))) → Choosing g slots used (met g t w)
+  pub met-choosing : (t w : ℕ) → w < 2 ^ control_count g → T (not (complete g (met g t w))) → Choosing g slots (met g t w)
   met-choosing t w h n =
       record {
-        accepted = p.accepted;
         store = p.store;
         held = good-all (machine_of g) (Holds slots) p.store.good p.start.0 p.start.1 (met g t w) (known t w h).reachable;
         unfinished = n;
@@ -250,51 +228,43 @@ module _ (g : Graph) (t word : ℕ) (states : List Fields) (go : Going g t word 
       ∙ ap₂ (λ (u y : ℕ). cond (eqb (state_at states word).values word) (record { cycle = u; state = state_at states word; step = y } ∷ []) []) (sym (add-one t)) (sym e)
 
 -- In the cycle after t cycles the words below `word` have passed: their states have gone on, and their rows are laid.
-pub record Passing (g : Graph) (t word : ℕ) (writing : Bool) (before after : List ℕ) (rows more : ℕ) (states : List Fields) : Type 0 where
+pub record Passing (g : Graph) (t word : ℕ) (before after : Rows) (states : List Fields) : Type 0 where
   pub going : Going g t word states
-  pub laid : Laid g writing before after rows more (list_below word (row_of g t))
+  pub lays : Lays g before after (list_below word (row_of g t))
 
-module _ {g : Graph} {t word : ℕ} {writing : Bool} {a b : List ℕ} {rows more : ℕ} {states : List Fields}
-    (p : Passing g t word writing a b rows more states) (h : word < 2 ^ control_count g)
-    (room : Room writing g.edition a (rows + length (cycle_rows g t))) where
-  -- the rows, one word further
-  laid_on : (c : List ℕ) (most : ℕ) → Laid g writing b c more most (row_of g t word)
-      → Laid g writing a c rows most (list_below (word + 1) (row_of g t))
-  unfolding cycle_rows
-  laid_on c most q = turn_laid g (row_of g t) (2 ^ control_count g) word h writing a b rows more p.laid room c most q
-
+module _ {g : Graph} {t word : ℕ} {a b : Rows} {states : List Fields} (p : Passing g t word a b states) (h : word < 2 ^ control_count g) where
   -- a word passes whose state is complete
-  pub passing_stays : T (complete g (state_at states word)) → Passing g t (word + 1) writing a b rows more states
+  pub passing_stays : T (complete g (state_at states word)) → Passing g t (word + 1) a b states
   passing_stays done =
       record {
         going = going_stays g t word states p.going h done;
-        laid = laid_on b more
-            (subst (Laid g writing b b more more)
-            (sym (row_none g t word (subst (λ (s : State). T (complete g s)) (here g t word states p.going h) done)))
-            (laid_none g writing b more));
+        lays = lays-turn g (row_of g t) word a b b p.lays
+            (subst (Lays g b b) (sym (row_none g t word (subst (λ (s : State). T (complete g s)) (here g t word states p.going h) done)))
+            (lays_none g b));
       }
 
   -- and one whose state is unfinished, with the step x
-  module _ (x : ℕ) (left : T (not (complete g (state_at states word)))) (chosen : x ≡ best (machine_of g) (state_at states word)) where
+  module _ (x : ℕ) (left : T (not (complete g (state_at states word)))) (chosen : x ≡ best (machine_of g) (state_at states word))
+      (small : word < 16) (next : Fields) (goes : state_of next ≡ after g (state_at states word) x word) where
     abbrev row : Row (machine_of g)
     row = record { cycle = t + 1; state = state_at states word; step = x }
 
-    pub passing_room : (state_at states word).values ≡ word → Room writing g.edition b (more + 1)
-    unfolding cycle_rows
-    passing_room e =
-        subst (λ (k : ℕ). Room writing g.edition b (more + k))
-        (ap length (row_here g t word states p.going h x left chosen
-        ∙ ap (λ (k : Bool). cond k (row ∷ []) []) (eq-eqb (state_at states word).values word e)))
-        (turn_room g (row_of g t) (2 ^ control_count g) word h writing a b rows more p.laid room)
-
-    pub passing_on : (c : List ℕ) (most : ℕ) (next : Fields) → word < 16 → state_of next ≡ after g (state_at states word) x word
-        → Laid g writing b c more most (cond (eqb (state_at states word).values word) (row ∷ []) [])
-        → Passing g t (word + 1) writing a c rows most (set states word next)
-    passing_on c most next small goes q =
+    on : {c : Rows} {l : List (Row (machine_of g))} → Lays g b c l → l ≡ cond (eqb (state_at states word).values word) (row ∷ []) []
+        → Passing g t (word + 1) a c (set states word next)
+    on {c} q e =
         record {
           going = going_on g t word states p.going h next left small (goes ∙ ap (λ (k : ℕ). after g (state_at states word) k word) chosen);
-          laid = laid_on c most (subst (Laid g writing b c more most) (sym (row_here g t word states p.going h x left chosen)) q);
+          lays = lays-turn g (row_of g t) word a b c p.lays
+              (subst (Lays g b c) (e ∙ sym (row_here g t word states p.going h x left chosen)) q);
         }
+
+    -- on its own word
+    pub passing_row : {c : Rows} → (state_at states word).values ≡ word → Lays g b c (row ∷ []) → Passing g t (word + 1) a c (set states word next)
+    passing_row e q = on q (sym (ap (λ (k : Bool). cond k (row ∷ []) []) (eq-eqb (state_at states word).values word e)))
+
+    -- and on another
+    pub passing_on : ((state_at states word).values ≡ word → ⊥) → Passing g t (word + 1) a b (set states word next)
+    passing_on n = on (lays_none g b) (sym (ap (λ (k : Bool). cond k (row ∷ []) []) (ne_eqb (state_at states word).values word n)))
 
 -- at most one row for a word
 pub row_one : (g : Graph) (t w : ℕ) → length (row_of g t w) ≤ 1

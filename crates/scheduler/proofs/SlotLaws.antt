@@ -1,13 +1,15 @@
 -- Laws of the work slots: what a slot says, and what slots in order hold. Assumes nothing.
 use Prim.Native.Nat.{ℕ, zero, suc, ◌+◌, ◌-◌, ◌*◌, ◌^◌, ◌/◌, ◌%◌, ◌≤◌, ◌<◌, zero-le, suc-le-suc}
-use native.Mathlib.Nat.{add_comm, mod-eq_of_lt, not-suc-le-zero, le_refl, lt_irrefl, le_of_suc-le-suc}
+use native.Mathlib.Nat.{add_comm, eq-or-lt_of_le, mod-eq_of_lt, not-suc-le-zero, le_refl, lt_irrefl, le_of_suc-le-suc}
 use native.Mathlib.Omega.{arith}
 use mathlib.Core.Path.{◌≡◌, refl, sym, ◌∙◌, ap, subst}
 use mathlib.Core.Logic.{◌⊎◌, inl, inr, ⊎_elim, ◌≢◌}
 use mathlib.Core.Bool.{Bool, true, false, cond, not}
-use mathlib.Core.List.{List, [], ◌∷◌, Memᴰ}
-use lib.ListN.{length, get_or, set, replicate, length-set}
-use lib.Seq.{get_or-set_same, get_or-set_other}
+use mathlib.Core.List.{List, [], ◌∷◌, ◌++◌, Memᴰ}
+use Rattle.std.specs.Prelude.{Some, None}
+use lib.ListN.{length, take, get_or, set, replicate, length-set, get_or-append}
+use lib.Seq.{get_or-set_same, get_or-set_other, length-take-le}
+use Rattle.std.proofs.lemmas.List.{length_push, get_or_push, get_or-take}
 use lib.Dec.{T, le→leb}
 use lib.Bits.{bit_and, bit_or, and_mask, or_shifted_r}
 use Rattle.machine.specs.Machine.{holds}
@@ -17,8 +19,7 @@ use Rattle.machine.proofs.Lawful.{Lawful}
 use Rattle.machine.proofs.Reach.{Distinct, none, more, holds-mem, mem-holds}
 use Rattle.meaning.specs.Graph.{Graph}
 use Rattle.meaning.specs.Steps.{State, machine_of}
-use Rattle.scheduler.specs.declared.slots.Found.{Found}
-use Rattle.scheduler.specs.Slots.{values_bit, number_bit, mark_bit, key_of, slot_of, in_use, state_in, number_in, Holds, InOrder, Finds, Added}
+use Rattle.scheduler.specs.Slots.{values_bit, number_bit, mark_bit, key_of, slot_of, in_use, state_in, number_in, Holds, InOrder, Finds, Reads, Added}
 
 -- a state fits a slot
 pub record Fits (s : State) : Type 0 where
@@ -30,11 +31,11 @@ put_above : (low field k : ℕ) → low < 2 ^ k → field * 2 ^ k < 2 ^ 64 → b
 put_above low field k h l = ap (bit_or low) (mod-eq_of_lt l) ∙ or_shifted_r field k low h ∙ add_comm (field * 2 ^ k) low
 
 -- the key and the slot, as shifts make them
-pub key_packed : (s : State) → Fits s → bit_or s.done (s.values * 2 ^ values_bit % 2 ^ 64) ≡ key_of s
+key_packed : (s : State) → Fits s → bit_or s.done (s.values * 2 ^ values_bit % 2 ^ 64) ≡ key_of s
 unfolding key_of
 key_packed s f = put_above s.done s.values values_bit f.done (omega (arith, f.values))
 
-pub slot_packed : (s : State) (key number : ℕ) → Fits s → number < 2 ^ 6 → key ≡ key_of s
+slot_packed : (s : State) (key number : ℕ) → Fits s → number < 2 ^ 6 → key ≡ key_of s
     → bit_or (bit_or key (number * 2 ^ number_bit % 2 ^ 64)) (2 ^ mark_bit) ≡ slot_of s number
 unfolding slot_of key_of
 slot_packed s key number f h e =
@@ -62,37 +63,104 @@ slot_number s number f h = omega (arith, f.done, f.values)
 abbrev pub key_in : ℕ → ℕ
 key_in slot = bit_and slot (2 ^ number_bit - 1)
 
-key-state : (slot : ℕ) (s : State) → Fits s → key_in slot ≡ key_of s → state_in slot ≡ s
-unfolding state_in key_of
-key-state slot s f e =
-    let low : slot % 2 ^ number_bit ≡ key_of s = sym (and_mask slot number_bit) ∙ e in
-    state_ext (state_in slot) s (omega (arith, f.done)) (omega (arith, f.done))
+-- The bits of a key: the state that they say fits a slot, and they are its key.
+module _ (bits : ℕ) (small : bits < 2 ^ 44) where
+  pub bits_fit : Fits (state_in bits)
+  unfolding state_in
+  bits_fit = record { done = omega arith; values = omega (arith, small) }
 
-state-key : (slot : ℕ) (s : State) → state_in slot ≡ s → key_in slot ≡ key_of s
+  bits-key : bits ≡ key_of (state_in bits)
+  unfolding state_in key_of
+  bits-key = omega (arith, small)
+
+  pub slot_made : (number : ℕ) → number < 2 ^ 6
+      → bit_or (bit_or bits (number * 2 ^ number_bit % 2 ^ 64)) (2 ^ mark_bit) ≡ slot_of (state_in bits) number
+  slot_made number h = slot_packed (state_in bits) bits number bits_fit h bits-key
+
+  -- what a slot holds with the state, by its key
+  pub read_here : (slot : ℕ) → key_in slot ≡ bits → Reads slot (state_in bits) (Some (bit_and (slot / 2 ^ number_bit) (2 ^ 6 - 1)))
+  unfolding state_in number_in key_of
+  read_here slot e =
+      let low : slot % 2 ^ number_bit ≡ bits = sym (and_mask slot number_bit) ∙ e in
+      (state_ext (state_in slot) (state_in bits) (omega (arith, low)) (omega (arith, low)), sym (and_mask (slot / 2 ^ number_bit) 6))
+
+  pub read_nothing : (slot : ℕ) → (key_in slot ≡ bits → ⊥) → Reads slot (state_in bits) None
+  unfolding state_in
+  read_nothing slot n e =
+      n (and_mask slot number_bit ∙ omega (arith, small, ap (λ (r : State). r.done) e, ap (λ (r : State). r.values) e))
+
+-- the key of a state, as shifts make it
+pub key_made : (s : State) → Fits s → state_in (bit_or s.done (s.values * 2 ^ values_bit % 2 ^ 64)) ≡ s
 unfolding state_in key_of
-state-key slot s e =
-    and_mask slot number_bit ∙ omega (arith, ap (λ (r : State). r.done) e, ap (λ (r : State). r.values) e)
+key_made s f =
+    ap state_in (key_packed s f)
+    ∙ state_ext (state_in (key_of s)) s (omega (arith, f.done, f.values)) (omega (arith, f.done, f.values))
+
+pub key-small : (s : State) → Fits s → bit_or s.done (s.values * 2 ^ values_bit % 2 ^ 64) < 2 ^ 44
+unfolding key_of
+key-small s f = omega (arith, key_packed s f, f.done, f.values)
+
+-- The slots that are left to read, in a walk over those in use, are the first; those that are read do not hold the state.
+pub record Left (slots : List ℕ) (used : ℕ) (s : State) (rest : List ℕ) : Type 0 where
+  pub within : length rest ≤ used
+  pub first : (i : ℕ) → i < length rest → get_or rest i 0 ≡ get_or slots i 0
+  pub passed : (i : ℕ) → length rest ≤ i → i < used → Reads (get_or slots i 0) s None
+
+module _ (slots : List ℕ) (used : ℕ) (s : State) where
+  pub left_all : used ≤ length slots → Left slots used s (take used slots)
+  left_all h =
+      let all : length (take used slots) ≡ used = length-take-le used slots h in
+      record {
+        within = omega (arith, all);
+        first = λ i k. get_or-take used slots i 0 (omega (arith, all));
+        passed = λ i k l. absurd (lt_irrefl i (omega (arith, all)));
+      }
+
+  module _ (rest next : List ℕ) (slot : ℕ) (e : rest ≡ next ++ (slot ∷ [])) (l : Left slots used s rest) where
+    one_less : length rest ≡ length next + 1
+    one_less = ap length e ∙ length_push next slot
+
+    left-last : (length next < used) × (slot ≡ get_or slots (length next) 0)
+    left-last = (
+      omega (arith, one_less, l.within),
+      sym (get_or_push next slot 0 (length next) refl) ∙ ap (λ (r : List ℕ). get_or r (length next) 0) (sym e)
+          ∙ l.first (length next) (omega (arith, one_less)),
+    )
+
+    pub left-next : Reads slot s None → Left slots used s next
+    left-next n =
+        record {
+          within = omega (arith, left-last.0);
+          first = λ i k. sym (get_or-append next (slot ∷ []) 0 i k) ∙ ap (λ (r : List ℕ). get_or r i 0) (sym e) ∙ l.first i (omega (arith, one_less));
+          passed = λ i k h.
+              ⊎_elim (λ (j : length next ≡ i). subst (λ (m : ℕ). Reads (get_or slots m 0) s None) j (subst (λ (x : ℕ). Reads x s None) left-last.1 n))
+              (λ (j : length next < i). l.passed i (omega (arith, one_less)) h) (eq-or-lt_of_le k);
+        }
 
 -- What a walk over the slots in use finds.
 module _ (slots : List ℕ) (used : ℕ) (order : InOrder slots used) (s : State) (fits : Fits s) where
-  pub found_here : (i : ℕ) → i < used → key_in (get_or slots i 0) ≡ key_of s → Holds slots s (bit_and (get_or slots i 0 / 2 ^ number_bit) (2 ^ 6 - 1))
-  unfolding number_in
-  found_here i h e =
-      record {
-        place = i;
-        within = omega (arith, order.within);
-        used = order.front i h;
-        state = key-state (get_or slots i 0) s fits e;
-        numbered = sym (and_mask (get_or slots i 0 / 2 ^ number_bit) 6);
-      }
+  pub found_here : (i number : ℕ) → i < used → Reads (get_or slots i 0) s (Some number) → Holds slots s number
+  found_here i number h r =
+      record { place = i; within = omega (arith, order.within); used = order.front i h; state = r.0; numbered = r.1 }
 
-  pub found_nowhere : ((i : ℕ) → i < used → key_in (get_or slots i 0) ≡ key_of s → ⊥) → Finds slots s Found.Nothing
+  pub found_nowhere : ((i : ℕ) → i < used → Reads (get_or slots i 0) s None) → Finds slots s None
   found_nowhere nowhere number h =
       ⊎_elim (λ (l : used ≤ h.place). contrary (in_use (get_or slots h.place 0)) h.used (order.rest h.place l))
-      (λ (l : h.place < used). nowhere h.place l (state-key (get_or slots h.place 0) s h.state)) (le-or-lt used h.place)
+      (λ (l : h.place < used). nowhere h.place l h.state) (le-or-lt used h.place)
+
+  -- none of them is left to read
+  pub found_none : (rest : List ℕ) → length rest ≡ 0 → Left slots used s rest → Finds slots s None
+  found_none rest e l = found_nowhere (λ i h. l.passed i (omega (arith, e)) h)
+
+  -- the last of those left holds the state
+  pub found_last : (rest next : List ℕ) (slot number : ℕ) → rest ≡ next ++ (slot ∷ []) → Left slots used s rest
+      → Reads slot s (Some number) → Holds slots s number
+  found_last rest next slot number e l r =
+      let n = left-last slots used s rest next slot e l in
+      found_here (length next) number n.0 (subst (λ (x : ℕ). Reads x s (Some number)) n.1 r)
 
   -- one more slot in use
-  module _ (number : ℕ) (small : number < 2 ^ 6) (room : used < length slots) (absent : Finds slots s Found.Nothing) where
+  module _ (number : ℕ) (small : number < 2 ^ 6) (room : used < length slots) (absent : Finds slots s None) where
     abbrev after : List ℕ
     after = set slots used (slot_of s number)
 
@@ -122,15 +190,19 @@ module _ (slots : List ℕ) (used : ℕ) (order : InOrder slots used) (s : State
         (λ m d. absurd (not_here a (omega arith) (d ∙ slot_state s number fits small)))
         (λ b o m d. order.once a b (omega arith) (omega arith) d) j k e) i h
 
-    pub inserted : Added slots after used s number
+    pub inserted-order : InOrder after (used + 1)
+    inserted-order =
+        record {
+          within = omega (arith, length-set slots used (slot_of s number));
+          front = each (λ i x. i < used + 1 → T (in_use x)) (λ h. slot_used s number) (λ i n h. order.front i (omega arith));
+          rest = each (λ i x. used + 1 ≤ i → T (not (in_use x))) (λ h. absurd (lt_irrefl used (omega arith))) (λ i n h. order.rest i (omega arith));
+          once = once_after;
+        }
+
+    pub inserted : Added slots after s number
     inserted =
         record {
-          order = record {
-            within = omega (arith, length-set slots used (slot_of s number));
-            front = each (λ i x. i < used + 1 → T (in_use x)) (λ h. slot_used s number) (λ i n h. order.front i (omega arith));
-            rest = each (λ i x. used + 1 ≤ i → T (not (in_use x))) (λ h. absurd (lt_irrefl used (omega arith))) (λ i n h. order.rest i (omega arith));
-            once = once_after;
-          };
+          same_length = length-set slots used (slot_of s number);
           new = record {
             place = used;
             within = omega (arith, length-set slots used (slot_of s number));

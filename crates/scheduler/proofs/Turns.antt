@@ -1,19 +1,18 @@
 -- What the two loops of the search keep: the least over the steps tried, and the worst over the words tried of one step.
 -- Assumes nothing.
 use Prim.Native.Nat.{ℕ, suc, min, max, ◌+◌, ◌^◌, ◌≤◌, ◌<◌, zero-le}
-use native.Mathlib.Nat.{le_refl, lt_irrefl, lt_of_lt_of_le}
-use native.Mathlib.Numerals.{add-one}
+use native.Mathlib.Nat.{le_refl, not-suc-le-zero, lt_irrefl, lt_of_lt_of_le}
 use native.Mathlib.Omega.{arith}
 use mathlib.Core.Path.{◌≡◌, sym, ◌∙◌, subst}
 use mathlib.Core.Logic.{◌⊎◌, inl, inr, ⊎_elim}
-use mathlib.Core.Bool.{not}
+use mathlib.Core.Bool.{true, not}
 use mathlib.Core.List.{List}
 use lib.Bits.{bit_and}
 use lib.Dec.{T}
 use lib.Pow.{pow_mono}
 use Rattle.machine.specs.Machine.{Reachable, step}
-use Rattle.machine.proofs.Truth.{false_of, contrary}
-use Rattle.machine.proofs.Sets.{trichotomy}
+use Rattle.machine.proofs.Truth.{true_of, false_of, contrary}
+use Rattle.machine.proofs.Sets.{le-or-lt, trichotomy}
 use Rattle.machine.proofs.Search.{missing, Right, Worst, worst_start, worst_same, worst_turn, worst_leads, Least, least_start, least_turn, least-right}
 use Rattle.meaning.specs.Graph.{Graph, control_count}
 use Rattle.meaning.specs.Steps.{State, machine_of, complete, legal, after}
@@ -21,51 +20,51 @@ use Rattle.meaning.proofs.Taken.{Accepted, few-controls}
 use Rattle.meaning.proofs.Instance.{undone, rank_falls, lawful}
 use Rattle.steps.specs.Forks.{begun, fork_of, falls}
 use Rattle.steps.proofs.After.{begun-below, falls_part}
-use Rattle.scheduler.specs.declared.slots.Found.{Found}
+use Rattle.std.specs.Prelude.{None}
 use Rattle.scheduler.specs.Slots.{Holds, Finds}
-use Rattle.scheduler.specs.Search.{StepFrom, Held, Store, Grown, Ready, Settles, Storable}
+use Rattle.scheduler.specs.Search.{StepFrom, Held, Store, Grown, Ready, Settles, Branches, Storable}
 use Rattle.scheduler.proofs.SearchLaws.{grown_none, grown_again}
 use Rattle.scheduler.proofs.Moves.{passed, passed_none, passed-all, passed_here, passed_more, passed-only, passed_skip, same_part}
 
 -- A state that is not complete, and the slots where its search begins.
 module _ (g : Graph) (s : State) where
-  -- The steps below `step` have been tried.
-  pub record Tried (before slots : List ℕ) (used number step : ℕ) : Type 0 where
-    pub grown : Grown g before slots used (undone g s)
-    pub least : Least (machine_of g) s step number
-    pub within : step ≤ (machine_of g).steps
-    pub lawful : step < (machine_of g).steps → T (legal g s step)
-    pub seen : (x : ℕ) → x < step → T (legal g s x) → (w : ℕ) → w < 2 ^ control_count g → Held slots (after g s x w)
+  -- The steps below `from` have been tried; no step is legal from there up to y.
+  pub record Tried (before slots : List ℕ) (number from : ℕ) : Type 0 where
+    pub grown : Grown g before slots (undone g s)
+    pub least : (y : ℕ) → from ≤ y → ((z : ℕ) → from ≤ z → z < y → T (not (legal g s z))) → Least (machine_of g) s y number
+    pub small : number ≤ missing
+    pub within : from ≤ (machine_of g).steps
+    pub seen : (x : ℕ) → x < from → T (legal g s x) → (w : ℕ) → w < 2 ^ control_count g → Held slots (after g s x w)
 
   -- The words below `word` over the controls begun in the step x have been tried.
-  pub record Branched (x : ℕ) (before slots : List ℕ) (used number word : ℕ) : Type 0 where
-    pub grown : Grown g before slots used (undone g s)
+  pub record Branched (x : ℕ) (before slots : List ℕ) (number word : ℕ) : Type 0 where
+    pub grown : Grown g before slots (undone g s)
     pub worst : Worst (machine_of g) s x (passed (begun g s.done x) word) number
     pub seen : (v : ℕ) → v < 2 ^ control_count g → T (passed (begun g s.done x) word v) → Held slots (after g s x v)
 
-  pub tried_none : (slots : List ℕ) (used y : ℕ) → Store g slots used → StepFrom g s 0 y → Tried slots slots used missing y
-  tried_none slots used y store a =
+  pub tried_none : (slots : List ℕ) → Store g slots → Tried slots slots missing 0
+  tried_none slots store =
       record {
-        grown = grown_none g slots used (undone g s) store;
-        least = least_start (machine_of g) s y (λ x h. a.between x zero-le h);
-        within = a.within;
-        lawful = a.lawful;
-        seen = λ x h t. absurd (contrary (legal g s x) t (a.between x zero-le h));
+        grown = grown_none g slots (undone g s) store;
+        least = λ y h none. least_start (machine_of g) s y (λ x k. none x zero-le k);
+        small = le_refl missing;
+        within = zero-le;
+        seen = λ x h. absurd (not-suc-le-zero h);
       }
 
-  pub branched_none : (x : ℕ) (slots : List ℕ) (used : ℕ) → Store g slots used → Branched x slots slots used 0 0
-  branched_none x slots used store =
+  pub branched_none : (x : ℕ) (slots : List ℕ) → Store g slots → Branched x slots slots 0 0
+  branched_none x slots store =
       record {
-        grown = grown_none g slots used (undone g s) store;
+        grown = grown_none g slots (undone g s) store;
         worst = worst_start (machine_of g) s x (passed (begun g s.done x) 0) (λ w h. passed_none (begun g s.done x) w);
         seen = λ v h t. absurd (contrary (passed (begun g s.done x) 0 v) t (passed_none (begun g s.done x) v));
       }
 
   -- a word that is no outcome is passed over
-  pub branched_skip : (x : ℕ) (before slots : List ℕ) (used worst word : ℕ) → Branched x before slots used worst word
-      → T (not (falls (fork_of g s x) word)) → Branched x before slots used worst (word + 1)
+  pub branched_skip : (x : ℕ) (before slots : List ℕ) (worst word : ℕ) → Branched x before slots worst word
+      → T (not (falls (fork_of g s x) word)) → Branched x before slots worst (word + 1)
   unfolding fork_of
-  branched_skip x before slots used worst word b n =
+  branched_skip x before slots worst word b n =
       record {
         grown = b.grown;
         worst = worst_same (machine_of g) s x (passed (begun g s.done x) word) (passed (begun g s.done x) (word + 1)) worst
@@ -86,22 +85,21 @@ module _ (g : Graph) (s : State) where
     pub word_low : (v : ℕ) → v < 2 ^ control_count g → v < 2 ^ 32
     word_low v h = lt_of_lt_of_le h (pow_mono {i = control_count g} {j = 32} (omega (arith, few-controls a.within)))
 
-    pub branched_ready : (x : ℕ) (before slots : List ℕ) (used worst word : ℕ) → Reachable (machine_of g) s
-        → T (not (complete g s)) → T (legal g s x) → Branched x before slots used worst word
-        → word ≤ begun g s.done x → Ready g slots used (after g s x word)
-    branched_ready x before slots used worst word q c t b h =
+    pub branched_ready : (x : ℕ) (before slots : List ℕ) (worst word : ℕ) → Reachable (machine_of g) s
+        → T (not (complete g s)) → T (legal g s x) → Branched x before slots worst word
+        → word ≤ begun g s.done x → Ready g slots (after g s x word)
+    branched_ready x before slots worst word q c t b h =
         record {
-          accepted = a;
           store = b.grown.store;
           reachable = step q (false_of (complete g s) c) x t word (omega (arith, begun-below g s x));
         }
 
-    pub branched_next : (x : ℕ) (before slots last : List ℕ) (used more worst number word : ℕ) → T (legal g s x)
-        → Branched x before slots used worst word → word ≤ begun g s.done x → T (falls (fork_of g s x) word)
-        → Settles g slots last (after g s x word) number more → Branched x before last more (max worst number) (word + 1)
+    pub branched_next : (x : ℕ) (before slots last : List ℕ) (worst number word : ℕ) → T (legal g s x)
+        → Branched x before slots worst word → word ≤ begun g s.done x → T (falls (fork_of g s x) word)
+        → Settles g slots last (after g s x word) number → Branched x before last (max worst number) (word + 1)
     unfolding fork_of
-    branched_next x before slots last used more worst number word t b h o r = record {
-      grown = grown_again g before slots last used more (undone g s) (suc (undone g (after g s x word))) b.grown r.grown
+    branched_next x before slots last worst number word t b h o r = record {
+      grown = grown_again g before slots last (undone g s) (suc (undone g (after g s x word))) b.grown r.grown
           (rank_falls g a.taken s x word t);
       worst = worst_turn (machine_of g) s x (passed forks word) (passed forks (word + 1)) worst number word b.worst right small
           (passed_here (fork_of g s x) word low o) (λ k i. passed_more forks word k) only;
@@ -127,40 +125,56 @@ module _ (g : Graph) (s : State) where
             (λ (e : bit_and v forks ≡ word). inr (same_part g s x v word (word_low v i) low (e ∙ sym (falls_part (fork_of g s x) word low o))))
             (passed-only forks word v u)
 
-    pub tried_next : (before slots last : List ℕ) (used more least worst x word y : ℕ) → Tried before slots used least x → x < (machine_of g).steps
-        → Branched x slots last more worst word → begun g s.done x < word → StepFrom g s (x + 1) y
-        → Tried before last more (min least (min missing (worst + 1))) y
-    tried_next before slots last used more least worst x word y t n b h next = record {
-      grown = grown_again g before slots last used more (undone g s) (undone g s) t.grown b.grown (le_refl (undone g s));
-      least = subst (λ (k : ℕ). Least (machine_of g) s y (min least (min missing k))) (sym (add-one worst))
-          (least_turn (machine_of g) s x y worst least t.least (omega (arith, next.from))
-          (worst_leads (machine_of g) s x (passed forks word) worst b.worst (λ w k. all w) (t.lawful n))
-          (λ z l u. next.between z (omega arith) u));
-      within = next.within;
-      lawful = next.lawful;
+    -- the words that have been tried are all, and so are the next states
+    pub branched_all : (x : ℕ) (before slots : List ℕ) (worst word : ℕ) → Branched x before slots worst word → begun g s.done x < word
+        → Branches g before slots s x worst
+    branched_all x before slots worst word b h =
+        let all : (w : ℕ) → T (passed (begun g s.done x) word w) = λ w. passed-all (begun g s.done x) word w h in
+        record {
+          grown = b.grown;
+          worst = worst_same (machine_of g) s x (passed (begun g s.done x) word) (λ w. true) worst
+              (λ w k. true_of (passed (begun g s.done x) word w) (all w)) b.worst;
+          held = λ w k. b.seen w k (all w);
+        }
+
+    pub tried_next : (before slots last : List ℕ) (least worst from x : ℕ) → Tried before slots least from → StepFrom g s from x
+        → Branches g slots last s x worst → Tried before last (min least (worst + 1)) (x + 1)
+    tried_next before slots last least worst from x t n b = record {
+      grown = grown_again g before slots last (undone g s) (undone g s) t.grown b.grown (le_refl (undone g s));
+      least = λ y h none.
+          subst (Least (machine_of g) s y) capped
+          (least_turn (machine_of g) s x y worst least (t.least x n.from n.between) (omega (arith, h))
+          (worst_leads (machine_of g) s x (λ w. true) worst b.worst (λ w k. tt) n.lawful)
+          (λ z l u. none z (omega (arith, l)) u));
+      small = omega (arith, t.small);
+      within = omega (arith, n.within);
       seen = seen;
     }
       where
-        forks : ℕ
-        forks = begun g s.done x
+        capped : min least (min missing (suc worst)) ≡ min least (worst + 1)
+        capped = omega (arith, t.small)
 
-        all : (w : ℕ) → T (passed forks word w)
-        all w = passed-all forks word w h
-
-        seen : (z : ℕ) → z < y → T (legal g s z) → (w : ℕ) → w < 2 ^ control_count g → Held last (after g s z w)
+        seen : (z : ℕ) → z < x + 1 → T (legal g s z) → (w : ℕ) → w < 2 ^ control_count g → Held last (after g s z w)
         seen z i u w l =
-            ⊎_elim (λ (e : z ≡ x). subst (λ (k : ℕ). Held last (after g s k w)) (sym e) (b.seen w l (all w)))
-            (⊎_elim (λ (e : z < x). let o = t.seen z e u w l in (o.0, b.grown.kept (after g s z w) o.0 o.1))
-            (λ (e : x < z). absurd (contrary (legal g s z) u (next.between z (omega arith) i))))
+            ⊎_elim (λ (e : z ≡ x). subst (λ (k : ℕ). Held last (after g s k w)) (sym e) (b.held w l))
+            (⊎_elim (λ (e : z < x). let o = old z e u w l in (o.0, b.grown.kept (after g s z w) o.0 o.1)) (λ (e : x < z). absurd (omega arith)))
             (trichotomy z x)
+          where
+            old : (k : ℕ) → k < x → T (legal g s k) → (w : ℕ) → w < 2 ^ control_count g → Held slots (after g s k w)
+            old k e u w l =
+                ⊎_elim (λ (h : from ≤ k). absurd (contrary (legal g s k) u (n.between k h e))) (λ (h : k < from). t.seen k h u w l)
+                (le-or-lt from k)
 
-    pub tried_all : (before slots : List ℕ) (used least y : ℕ) → Tried before slots used least y → (machine_of g).steps ≤ y
-        → T (not (complete g s)) → Reachable (machine_of g) s → Finds before s Found.Nothing → Storable g slots used s least
-    tried_all before slots used least y t m c q n =
+    pub tried_all : (before slots : List ℕ) (least from : ℕ) → Tried before slots least from
+        → ((z : ℕ) → from ≤ z → z < (machine_of g).steps → T (not (legal g s z)))
+        → T (not (complete g s)) → Reachable (machine_of g) s → Finds before s None → Storable g slots s least
+    tried_all before slots least from t m c q n =
         record {
-          ready = record { accepted = a; store = t.grown.store; reachable = q };
+          ready = record { store = t.grown.store; reachable = q };
           absent = λ number h.
               ⊎_elim (λ (k : Holds before s number). n number k) (λ (k : undone g s < undone g s). lt_irrefl (undone g s) k) (t.grown.fresh s number h);
-          right = least-right (machine_of g) s y least t.least c t.within (λ x h k. absurd (lt_irrefl x (omega arith)));
-          closed = λ d x u. t.seen x (lt_of_lt_of_le (lawful-steps x u) m) u;
+          right = least-right (machine_of g) s from least (t.least from (le_refl from) (λ z h k. absurd (lt_irrefl z (omega arith)))) c t.within m;
+          closed = λ d x u.
+              ⊎_elim (λ (h : from ≤ x). absurd (contrary (legal g s x) u (m x h (lawful-steps x u)))) (λ (h : x < from). t.seen x h u)
+              (le-or-lt from x);
         }

@@ -1,12 +1,13 @@
 -- Laws of writing bytes into a buffer. Assumes nothing.
-use Prim.Native.Nat.{ℕ, suc, ◌+◌, ◌-◌, ◌^◌, ◌/◌, ◌%◌, ◌≤◌, ◌<◌}
+use Prim.Native.Nat.{ℕ, zero, suc, ◌+◌, ◌-◌, ◌^◌, ◌/◌, ◌%◌, ◌≤◌, ◌<◌}
 use native.Mathlib.Nat.{add-zero, zero-add, mod-eq_of_lt}
-use native.Mathlib.Numerals.{add-one}
 use native.Mathlib.Omega.{arith}
 use mathlib.Core.Path.{◌≡◌, refl, sym, ◌∙◌, ap, ap₂}
 use mathlib.Core.List.{List, [], ◌∷◌, ◌++◌, append_assoc}
-use lib.ListN.{length, take, drop, set, length-append, length-drop, take-append-drop}
-use lib.Seq.{take_at, drop_at, drop-append-add, drop-drop, length-take-le, take-suc-set, drop-set-lt}
+use lib.ListN.{length, take, drop, length-append, length-drop, take-append-drop}
+use lib.Seq.{take_at, drop_at, drop-append-add, drop-drop, length-take-le}
+use borrow.Rule.Slice.PartMut.{put_mid}
+use Rattle.std.specs.Int.{w32, to_le_bytes}
 use Rattle.machine.specs.Tables.{Row}
 use Rattle.meaning.specs.Graph.{Graph}
 use Rattle.meaning.specs.Steps.{machine_of}
@@ -18,17 +19,6 @@ use Rattle.scheduler.specs.Writing.{written}
 pub written_none : (t : List ℕ) (at : ℕ) → written t at [] ≡ t
 unfolding written
 written_none t at = ap (λ (k : ℕ). take at t ++ drop k t) (add-zero at) ∙ take-append-drop at t
-
--- one byte first
-written_byte : (t : List ℕ) (at b : ℕ) (bytes : List ℕ) → at < length t → written (set t at b) (at + 1) bytes ≡ written t at (b ∷ bytes)
-unfolding written
-written_byte t at b bytes h =
-    ap₂ (λ (x y : List ℕ). x ++ (bytes ++ y)) (ap (λ (k : ℕ). take k (set t at b)) (add-one at) ∙ take-suc-set t at b h)
-    (drop-set-lt (at + 1 + length bytes) t at b (omega arith) ∙ ap (λ (k : ℕ). drop k t) next)
-    ∙ append_assoc (take at t) (b ∷ []) (bytes ++ drop (at + length (b ∷ bytes)) t)
-  where
-    next : at + 1 + length bytes ≡ at + length (b ∷ bytes)
-    next = omega arith
 
 pub written-length : (t : List ℕ) (at : ℕ) (bytes : List ℕ) → at + length bytes ≤ length t → length (written t at bytes) ≡ length t
 unfolding written
@@ -62,18 +52,21 @@ written_more t at a b h = ap (λ (x : List ℕ). take (at + length a) x ++ (b ++
         ap (λ (k : ℕ). drop (k + length b) ((x ++ a) ++ d)) (sym front) ∙ drop-append-add (x ++ a) d (length b)
         ∙ drop-drop (length b) (at + length a) t ∙ ap (λ (k : ℕ). drop k t) sum
 
--- one more byte of a number
-pub put_turn : (t : List ℕ) (at i size rest : ℕ) → at + i < length t → i < size
-    → written (set t (at + i) (rest % 256)) (at + (i + 1)) (bytes_of (size - (i + 1)) (rest / 256)) ≡ written t (at + i) (bytes_of (size - i) rest)
-unfolding bytes_of
-put_turn t at i size rest h k = ap (λ (p : ℕ). written (set t (at + i) (rest % 256)) p (bytes_of (size - (i + 1)) (rest / 256))) there
-    ∙ written_byte t (at + i) (rest % 256) (bytes_of (size - (i + 1)) (rest / 256)) h ∙ ap (λ (p : ℕ). written t (at + i) (bytes_of p rest)) one_more
-  where
-    there : at + (i + 1) ≡ at + i + 1
-    there = omega arith
+-- a part of the buffer that becomes these bytes
+pub part-written : (t : List ℕ) (at size : ℕ) (bytes : List ℕ) → length bytes ≡ size → put_mid at (at + size - at) t bytes ≡ written t at bytes
+unfolding written
+part-written t at size bytes e =
+    ap (λ (d : List ℕ). take at t ++ (bytes ++ d)) (drop-drop (at + size - at) at t ∙ ap (λ (k : ℕ). drop k t) (omega (arith, e)))
 
-    one_more : suc (size - (i + 1)) ≡ size - i
-    one_more = omega arith
+-- the low bytes of a number, as std has them
+pub bytes-low : (size x : ℕ) → size ≤ 4 → take size (to_le_bytes w32 x) ≡ bytes_of size x
+unfolding bytes_of
+bytes-low zero x h = refl
+bytes-low (suc zero) x h = refl
+bytes-low (suc (suc zero)) x h = refl
+bytes-low (suc (suc (suc zero))) x h = ap (λ (a : ℕ). x % 256 ∷ x / 256 % 256 ∷ a % 256 ∷ []) (omega arith)
+bytes-low (suc (suc (suc (suc zero)))) x h = ap₂ (λ (a b : ℕ). x % 256 ∷ x / 256 % 256 ∷ a % 256 ∷ b % 256 ∷ []) (omega arith) (omega arith)
+bytes-low (suc (suc (suc (suc (suc n))))) x h = absurd (omega arith)
 
 -- two writes, one behind the other
 pub written_then : (t u v : List ℕ) (at next : ℕ) (a b : List ℕ) → u ≡ written t at a → v ≡ written u next b

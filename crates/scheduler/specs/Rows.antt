@@ -1,5 +1,5 @@
 -- What planning the rows asks and gives.
-use Rattle.std.specs.Prelude.{ℕ, suc, ◌+◌, ◌*◌, ◌^◌, ◌≤◌, ◌<◌, ◌≡◌, Bool, cond, not, ◌&&◌, List, [], ◌∷◌, length, get_or, T, eqb}
+use Rattle.std.specs.Prelude.{ℕ, suc, ◌+◌, ◌*◌, ◌^◌, ◌≤◌, ◌<◌, ◌≡◌, cond, not, ◌&&◌, List, [], ◌∷◌, length, get_or, T, eqb}
 use Rattle.machine.specs.Sets.{list_below}
 use Rattle.machine.specs.Machine.{remaining, best, run}
 use Rattle.machine.specs.Tables.{Row, schedule_rows}
@@ -7,31 +7,28 @@ use Rattle.machine.proofs.Search.{missing}
 use Rattle.meaning.specs.Graph.{Graph, control_count}
 use Rattle.meaning.specs.Steps.{State, machine_of, complete, legal}
 use Rattle.meaning.specs.TableFile.{most_rows, row_start, row_files}
-use Rattle.meaning.proofs.Taken.{Accepted}
-use Rattle.steps.specs.declared.State.{State as Fields}
-use Rattle.steps.specs.States.{state_of}
-use Rattle.scheduler.specs.declared.rows.Progress.{Progress}
+use Rattle.parts.specs.declared.State.{State as Fields}
+use Rattle.parts.specs.Fields.{state_of}
+use Rattle.scheduler.specs.declared.table.Rows.{Rows}
 use Rattle.scheduler.specs.Search.{Held, Store}
 use Rattle.scheduler.specs.Writing.{written}
 
 -- what choosing a step asks: a held state that is unfinished and has a remaining number
-pub record Choosing (g : Graph) (slots : List ℕ) (used : ℕ) (s : State) : Type 0 where
-  pub accepted : Accepted g
-  pub store : Store g slots used
+pub record Choosing (g : Graph) (slots : List ℕ) (s : State) : Type 0 where
+  pub store : Store g slots
   pub held : Held slots s
   pub unfinished : T (not (complete g s))
   pub numbered : remaining (machine_of g) s ≤ (machine_of g).horizon
 
 -- what attaining asks: a step that may be chosen, and a bound that is a number
-pub record Attaining (g : Graph) (slots : List ℕ) (used : ℕ) (s : State) (step bound : ℕ) : Type 0 where
-  pub choosing : Choosing g slots used s
+pub record Attaining (g : Graph) (slots : List ℕ) (s : State) (step bound : ℕ) : Type 0 where
+  pub choosing : Choosing g slots s
   pub lawful : T (legal g s step)
   pub numbered : bound < missing
 
 -- what planning asks: the start is held, and so every reachable state, and has a remaining number
-pub record Planning (g : Graph) (slots : List ℕ) (used : ℕ) : Type 0 where
-  pub accepted : Accepted g
-  pub store : Store g slots used
+pub record Planning (g : Graph) (slots : List ℕ) : Type 0 where
+  pub store : Store g slots
   pub start : Held slots (machine_of g).start
   pub numbered : remaining (machine_of g) (machine_of g).start ≤ (machine_of g).horizon
 
@@ -58,35 +55,36 @@ row_of g t w =
 unfoldable pub cycle_rows : (g : Graph) → ℕ → List (Row (machine_of g))
 cycle_rows g t = list_below (2 ^ control_count g) (row_of g t)
 
--- rows counted, and if there is writing, written behind those before
-pub record Laid (g : Graph) (writing : Bool) (before after : List ℕ) (rows more : ℕ) (l : List (Row (machine_of g))) : Type 0 where
+-- the rows l laid behind others: counted, and written behind those where the buffer has room for all
+pub record Laid (g : Graph) (before after : List ℕ) (rows more : ℕ) (l : List (Row (machine_of g))) : Type 0 where
   pub count : more ≡ rows + length l
-  pub table : after ≡ cond writing (written before (row_start g.edition (suc rows)) (row_files g l)) before
+  pub same_length : length after ≡ length before
+  pub table : row_start g.edition (suc (rows + length l)) ≤ length before → after ≡ written before (row_start g.edition (suc rows)) (row_files g l)
 
--- the buffer has room for so many rows, if there is writing
-abbrev pub Room : Bool → ℕ → List ℕ → ℕ → Type 0
-Room writing edition table rows = T writing → row_start edition (suc rows) ≤ length table
+-- the same, of rows in a buffer that stays the one that was lent
+pub record Lays (g : Graph) (before after : Rows) (l : List (Row (machine_of g))) : Type 0 where
+  pub lent : after.table.ghost_name ≡ before.table.ghost_name
+  pub edition : after.edition ≡ before.edition
+  pub laid : Laid g before.table.now after.table.now before.count after.count l
 
--- what going one cycle on asks: the states of all words after the cycles past, and room for the rows of the cycle
-pub record CycleAsks (g : Graph) (slots : List ℕ) (used : ℕ) (p : Progress) (table : List ℕ) (writing : Bool) : Type 0 where
-  pub planning : Planning g slots used
-  pub meets : Meets g p.past 0 (2 ^ control_count g) p.states
-  pub few : p.rows ≤ 16 * p.past
-  pub early : 16 * suc p.past ≤ most_rows g.edition
-  pub room : Room writing g.edition table (p.rows + length (cycle_rows g p.past))
+-- what going one cycle on asks: the states of all words after the cycles past, and few enough rows so far
+pub record CycleAsks (g : Graph) (slots : List ℕ) (past : ℕ) (states : List Fields) (rows : Rows) : Type 0 where
+  pub planning : Planning g slots
+  pub meets : Meets g past 0 (2 ^ control_count g) states
+  pub edition : rows.edition ≡ g.edition
+  pub few : rows.count ≤ 16 * past
+  pub early : 16 * suc past ≤ most_rows g.edition
 
 -- and what it gives
-pub record CycleGives (g : Graph) (p : Progress) (writing : Bool) (before after : List ℕ) (r : Progress) : Type 0 where
-  pub past : r.past ≡ suc p.past
-  pub laid : Laid g writing before after p.rows r.rows (cycle_rows g p.past)
-  pub meets : Meets g (suc p.past) 0 (2 ^ control_count g) r.states
+pub record CycleGives (g : Graph) (past : ℕ) (states : List Fields) (before after : Rows) : Type 0 where
+  pub lays : Lays g before after (cycle_rows g past)
+  pub meets : Meets g (suc past) 0 (2 ^ control_count g) states
 
 -- what planning all cycles asks
-pub record PlanAsks (g : Graph) (slots : List ℕ) (used cycles : ℕ) (table : List ℕ) (writing : Bool) : Type 0 where
-  pub planning : Planning g slots used
+pub record PlanAsks (g : Graph) (slots : List ℕ) (cycles : ℕ) : Type 0 where
+  pub planning : Planning g slots
   pub number : cycles ≡ remaining (machine_of g) (machine_of g).start
-  pub room : Room writing g.edition table (length (schedule_rows (machine_of g)))
 
 -- and what it gives
-abbrev pub PlanGives : Graph → Bool → List ℕ → List ℕ → ℕ → Type 0
-PlanGives g writing before after rows = Laid g writing before after 0 rows (schedule_rows (machine_of g))
+abbrev pub PlanGives : Graph → List ℕ → List ℕ → ℕ → Type 0
+PlanGives g before after rows = Laid g before after 0 rows (schedule_rows (machine_of g))

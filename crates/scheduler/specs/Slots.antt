@@ -1,8 +1,6 @@
 -- How a state lies in a work slot, and what slots hold.
-use Rattle.std.specs.Prelude.{ℕ, ◌+◌, ◌-◌, ◌*◌, ◌^◌, ◌/◌, ◌%◌, ◌≤◌, ◌<◌, ◌≡◌, Bool, not, List, ◌⊎◌, length, get_or, T, leb}
+use Rattle.std.specs.Prelude.{ℕ, ◌+◌, ◌-◌, ◌*◌, ◌^◌, ◌/◌, ◌%◌, ◌≤◌, ◌<◌, ◌≡◌, Bool, not, List, ◌⊎◌, length, get_or, T, leb, Option, Some, None}
 use Rattle.meaning.specs.Steps.{State}
-use Rattle.scheduler.specs.declared.slots.Found.{Found}
-use Rattle.scheduler.specs.declared.slots.Found.TheVariants.{Number, Nothing}
 
 -- A slot in use, by its bits: 0 to 39 the operations done, 40 to 43 the values, 44 to 49 the cycle, which a later request
 -- brings and which is 0 today, 50 to 55 the number, and bit 56, which is 1. A slot that is not in use is 0.
@@ -53,13 +51,23 @@ pub record InOrder (slots : List ℕ) (used : ℕ) : Type 0 where
   pub once : (i j : ℕ) → i < used → j < used → state_in (get_or slots i 0) ≡ state_in (get_or slots j 0) → i ≡ j
 
 -- what a look-up for the state s finds
-abbrev pub Finds : List ℕ → State → Found → Type 0
-Finds slots s (Number number) = Holds slots s number
-Finds slots s Nothing = (number : ℕ) → Holds slots s number → ⊥
+abbrev pub Finds : List ℕ → State → Option ℕ → Type 0
+Finds slots s (Some number) = Holds slots s number
+Finds slots s None = (number : ℕ) → Holds slots s number → ⊥
+
+-- what is read in one slot for the state s: the number, if the slot holds that state
+abbrev pub Reads : ℕ → State → Option ℕ → Type 0
+Reads slot s (Some number) = (state_in slot ≡ s) × (number_in slot ≡ number)
+Reads slot s None = state_in slot ≡ s → ⊥
 
 -- the slots `after` hold what the slots `before` held, and the state s with a number, and no more
-pub record Added (before after : List ℕ) (used : ℕ) (s : State) (number : ℕ) : Type 0 where
-  pub order : InOrder after (used + 1)
+pub record Added (before after : List ℕ) (s : State) (number : ℕ) : Type 0 where
+  pub same_length : length after ≡ length before
   pub new : Holds after s number
   pub kept : (r : State) (n : ℕ) → Holds before r n → Holds after r n
   pub only : (r : State) (n : ℕ) → Holds after r n → Holds before r n ⊎ ((r ≡ s) × (n ≡ number))
+
+-- what storing a state with its number gives: all slots were in use, or it is added
+abbrev pub StoredAs : List ℕ → List ℕ → ℕ → State → ℕ → Option ℕ → Type 0
+StoredAs before after used s number None = used ≡ length before
+StoredAs before after used s number (Some n) = Added before after s number × (n ≡ number)

@@ -1,95 +1,63 @@
-// The search: every reachable state is met once, and stored with its remaining number.
-ghost use Rattle.std.specs.Prelude.{◌≡◌, min, max, ◌<◌};
-ghost use Rattle.meaning.specs.Graph.{content};
-ghost use Rattle.steps.specs.States.{state_of};
-ghost use Rattle.scheduler.specs.Slots.{InOrder, Finds};
-ghost use Rattle.scheduler.specs.Search.{NextStep, Ready, StoredAs, SettledTo};
+// The search: every reachable state is met once, and stored with its remaining number. Plainer with the graph and the slots apart:
+// the one is only read, the other is written.
+ghost use Rattle.parts.specs.Fields.{graph_in, state_of};
+ghost use Rattle.scheduler.specs.Search.{NextStep, Ready, SettledTo, Branching, BranchedTo};
 
-use crate::slots::{Found, find, insert};
+use crate::key::Key;
+use crate::slots::Slots;
 use masks::Set;
-use steps::{Moves, State};
+use parts::State;
+use reader::TakenGraph;
+use steps::Moves;
 
-// More reachable states than slots, or the number of a state and how many slots are in use.
-#[derive(Clone, Copy)]
-pub(crate) enum Settled {
-    Full,
-    Number { number: u32, used: usize },
+// The number that stands for a missing one. Plainer so than an option: it is above all others, so that least and worst are minima
+// and maxima of numbers, and a slot holds it in the same six bits.
+const MISSING: u32 = 63;
+
+// The least legal step from a number on. All who go through the steps of a state ask here. Plainer so than an iterator of its own:
+// the next step from a number on is what `step_from` promises, and either walk adds two lines to it.
+pub(crate) fn next_step(moves: &Moves, from: Set) -> Option<Set>
+    ensures { NextStep moves.now from result }
+{
+    moves.step_from(from)
 }
 
-// The number that stands for a missing one.
-pub(crate) const MISSING: u32 = 63;
-
-fn larger(a: u32, b: u32) -> u32
-    ensures { result ≡ max a b }
+// Meets a state and all that is reachable from it, and gives its number; nothing where more states are reachable than slots.
+#[cycle(settle)]
+pub(crate) fn settle(taken: &TakenGraph, slots: &mut Slots, s: State) -> Option<u32>
+    requires { Ready (graph_in taken.now.graph) slots.old.slots.now (state_of s) }
+    ensures { SettledTo (graph_in taken.now.graph) slots.old.slots.now slots.new.slots.now (state_of s) result }
 {
-    if a < b { b } else { a }
-}
-
-fn smaller(a: u32, b: u32) -> u32
-    ensures { result ≡ min a b }
-{
-    if a < b { a } else { b }
-}
-
-// The least legal step from a number on, and the number of steps where there is none. All who go through the steps of a state
-// ask here.
-pub(crate) fn next_step(moves: Moves, from: Set) -> Set
-    ensures { NextStep moves from result }
-{
-    steps::step_from(moves, from)
-}
-
-// Stores a state that is not held with its number, if there is a slot.
-fn store(slots: &mut [u64], used: usize, s: State, number: u32) -> Settled
-    requires in_order { InOrder slots.old used }
-    requires values_bound { (s.values < 16) × (number < 64) }
-    requires finds { Finds slots.old (state_of s) Found.Nothing }
-    ensures { StoredAs slots.old slots.new used (state_of s) number result }
-{
-    if used == slots.len() {
-        return Settled::Full;
+    let key = Key::of(s);
+    if let Some(number) = slots.find(key) {
+        return Some(number);
     }
-    insert(slots, used, s, number);
-    Settled::Number {
-        number,
-        used: used + 1,
+    if steps::complete(&taken.graph, s) {
+        return slots.insert(key, 0);
     }
-}
-
-// Meets a state and all that is reachable from it.
-pub(crate) fn settle(graph: &[u8], slots: &mut [u64], used: usize, s: State) -> Settled
-    requires { Ready (content graph.now) slots.old used (state_of s) }
-    ensures { SettledTo (content graph.now) slots.old slots.new (state_of s) result }
-{
-    if let Found::Number(number) = find(slots, used, s) {
-        return Settled::Number { number, used };
-    }
-    if steps::complete(graph, s) {
-        return store(slots, used, s, 0);
-    }
-    let moves = steps::moves_in(graph, s);
-    let steps = moves.steps;
-    let mut used = used;
+    let moves = steps::moves_in(&taken.graph, s);
     let mut least = MISSING;
-    let mut step = next_step(moves, 0);
-    while step < steps {
-        let fork = steps::fork_of(graph, s, step);
-        let begun = fork.begun;
-        let mut worst = 0;
-        let mut word = 0;
-        while word <= begun {
-            if steps::falls(fork, word) {
-                let settled = settle(graph, slots, used, steps::fallen(fork, word));
-                let Settled::Number { number, used: more } = settled else {
-                    return Settled::Full;
-                };
-                worst = larger(worst, number);
-                used = more;
-            }
-            word += 1;
-        }
-        least = smaller(least, smaller(MISSING, worst + 1));
-        step = next_step(moves, step + 1);
+    let mut from = 0;
+    while let Some(step) = next_step(&moves, from) {
+        let worst = settle_after(taken, slots, s, step)?;
+        least = least.min(worst + 1);
+        from = step + 1;
     }
-    store(slots, used, s, least)
+    slots.insert(key, least)
+}
+
+// Settles the states that a step leads to, however its controls fall, and gives the worst of their numbers.
+#[cycle(settle)]
+fn settle_after(taken: &TakenGraph, slots: &mut Slots, s: State, step: Set) -> Option<u32>
+    requires { Branching (graph_in taken.now.graph) slots.old.slots.now (state_of s) step }
+    ensures { BranchedTo (graph_in taken.now.graph) slots.old.slots.now slots.new.slots.now (state_of s) step result }
+{
+    let fork = steps::fork_of(&taken.graph, s, step);
+    let mut worst: u32 = 0;
+    for word in 0..=fork.begun {
+        if fork.falls(word) {
+            worst = worst.max(settle(taken, slots, fork.fallen(word))?);
+        }
+    }
+    Some(worst)
 }

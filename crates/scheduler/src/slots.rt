@@ -1,79 +1,49 @@
-// The work slots: how a state lies in one, and the look-up of a state with its number. Nothing else looks into them.
-ghost use Rattle.std.specs.Prelude.{◌≡◌, ◌<◌, length, replicate};
-ghost use Rattle.steps.specs.States.{state_of};
-ghost use Rattle.scheduler.specs.Slots.{key_of, slot_of, InOrder, Finds, Added};
+// The work slots, with how many are in use: the look-up of a state, and states added one by one.
+ghost use Rattle.std.specs.Prelude.{◌≡◌, ◌<◌, length, replicate, None};
+ghost use Rattle.scheduler.specs.Slots.{state_in, InOrder, Finds, StoredAs};
 
-use steps::State;
+use crate::key::Key;
 
-// What a look-up finds: the number that is held with the state, or that the state is not held.
-#[derive(Clone, Copy)]
-pub(crate) enum Found {
-    Number(u32),
-    Nothing,
+// The slots in use are the first; no two hold the same state. The rule of fixed memory needs the count: the slots are lent.
+#[derive(Drop)]
+pub(crate) struct Slots<'a> {
+    pub slots: &'a mut [u64],
+    pub used: usize,
+    ghost in_order: { InOrder slots.now used },
 }
 
-// Where the values and the number stand in a slot; the operations done stand from bit 0 on.
-const VALUES: u32 = 40;
-
-const NUMBER: u32 = 50;
-
-// The bits below the number, which say the state, and the mark of a slot in use.
-const KEY: u64 = (1 << NUMBER) - 1;
-
-const IN_USE: u64 = 1 << 56;
-
-// The part of a slot that says which state it holds.
-fn key(s: State) -> u64
-    requires { s.values < 16 }
-    ensures { result ≡ key_of (state_of s) }
-{
-    s.done as u64 | (s.values as u64) << VALUES
-}
-
-// The slot of a state with its number.
-fn pack(s: State, number: u32) -> u64
-    requires { (s.values < 16) × (number < 64) }
-    ensures { result ≡ slot_of (state_of s) number }
-{
-    key(s) | (number as u64) << NUMBER | IN_USE
-}
-
-// Sets all slots to 0.
-pub(crate) fn clear(slots: &mut [u64])
-    ensures { slots.new ≡ replicate (length slots.old) 0 }
-{
-    let mut at = 0;
-    while at < slots.len() {
-        slots[at] = 0;
-        at += 1;
+impl<'a> Slots<'a> {
+    // Sets all slots to 0: none is in use.
+    pub(crate) fn cleared(slots: &'a mut [u64]) -> Slots<'a>
+        ensures { result.slots.now ≡ replicate (length slots.old) 0 }
+    {
+        slots.fill(0);
+        Slots { slots, used: 0 }
     }
-}
 
-// Looks a state up, by a walk over the slots in use, the latest first: a state that is met again was mostly stored not long ago.
-pub(crate) fn find(slots: &[u64], used: usize, s: State) -> Found
-    requires in_order { InOrder slots.now used }
-    requires values_bound { s.values < 16 }
-    ensures { Finds slots.now (state_of s) result }
-{
-    let key = key(s);
-    let mut i = used;
-    while 0 < i {
-        i -= 1;
-        let slot = slots[i];
-        if slot & KEY == key {
-            return Found::Number((slot >> NUMBER & 63) as u32);
+    // Looks a state up, the latest slot first: a state that is met again was mostly stored not long ago.
+    pub(crate) fn find(&self, key: Key) -> Option<u32>
+        ensures { Finds self.now.slots.now (state_in key.bits) result }
+    {
+        for slot in self.slots[..self.used].iter().rev() {
+            if let Some(number) = key.number_in(*slot) {
+                return Some(number);
+            }
         }
+        None
     }
-    Found::Nothing
-}
 
-// Adds a state that is not held, with its number, to slots that are not all in use.
-pub(crate) fn insert(slots: &mut [u64], used: usize, s: State, number: u32)
-    requires in_order { InOrder slots.old used }
-    requires used_in_bounds { used < length slots.old }
-    requires values_bound { (s.values < 16) × (number < 64) }
-    requires finds { Finds slots.old (state_of s) Found.Nothing }
-    ensures { Added slots.old slots.new used (state_of s) number }
-{
-    slots[used] = pack(s, number);
+    // Adds a state that is not held, with its number, which is the answer; nothing where all slots are in use.
+    pub(crate) fn insert(&mut self, key: Key, number: u32) -> Option<u32>
+        requires number_bound { number < 64 }
+        requires finds { Finds self.old.slots.now (state_in key.bits) None }
+        ensures { StoredAs self.old.slots.now self.new.slots.now self.old.used (state_in key.bits) number result }
+    {
+        if self.used == self.slots.len() {
+            return None;
+        }
+        self.slots[self.used] = key.slot(number);
+        self.used += 1;
+        Some(number)
+    }
 }

@@ -144,6 +144,11 @@ module _ (b : ℕ) (f : ℕ → Bool) (x : ℕ) where
   unfolding least_from
   from_none t none = sym (first_none b later (none_any b later (least-below b (from_above t b none))))
 
+  -- past the bound there is none
+  pub from_past : b ≤ x → b ≡ least_from b f x
+  unfolding least_from
+  from_past p = sym (first_none b later (none_any b later (least-below b (λ z h k. absurd (omega arith)))))
+
   pub least-from : x ≤ b → Least b f x (least_from b f x)
   unfolding least_from
   least-from h =

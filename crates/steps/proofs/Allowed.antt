@@ -1,12 +1,11 @@
 -- A step that the masks of a state allow is a legal one, and the other way round. Assumes nothing.
-use Prim.Native.Nat.{ℕ, min, ◌^◌, ◌<◌}
+use Prim.Native.Nat.{ℕ, ◌^◌, ◌<◌}
 use native.Mathlib.Nat.{lt_of_lt_of_le}
 use native.Mathlib.Omega.{arith}
 use borrow.Author.Tests.{lt-ltb}
 use mathlib.Core.Path.{◌≡◌, refl, sym, ◌∙◌, ap, ap₂, subst}
 use mathlib.Core.Bool.{Bool, true, false, cond, not, ◌&&◌, ◌||◌, not-not}
 use lib.Dec.{T, eqb, leb, ltb, ltb→lt, lt→ltb}
-use lib.ListN.{get_or}
 use lib.Pow.{pow_mono}
 use Rattle.machine.specs.Sets.{has, all_below, any_below, count_below}
 use Rattle.machine.proofs.Truth.{and_left, and_right, both, not-and, and-not, not-not_elim, not-not_intro, same_test, and_same, and_turn, and-past}
@@ -15,9 +14,9 @@ use Rattle.masks.proofs.Bits.{any-cut}
 use Rattle.meaning.specs.Graph.{Graph, operation_count, class_count, limit, class}
 use Rattle.meaning.specs.Steps.{State, excluded, held_back, demanded, overfull, legal}
 use Rattle.meaning.proofs.Taken.{Within, few-operations, few-classes}
-use Rattle.steps.specs.Moves.{among, eight, of_class, step_count, moves_in, apart, within, least_from, roomy, fits, allows, step_from}
+use Rattle.steps.specs.Moves.{among, of_class, class_at, step_count, moves_in, apart, within, least_from, roomy, fits, allows, step_from}
 use Rattle.steps.proofs.Above.{least-same}
-use Rattle.steps.proofs.Eights.{eight-at}
+use Rattle.steps.proofs.Eights.{first_of_eight}
 
 -- A graph whose counts are within its edition's maxima, and so have room in the masks.
 module _ (g : Graph) (small : Within g) where
@@ -96,27 +95,22 @@ module _ (g : Graph) (small : Within g) where
           (and_right (ltb step (2 ^ n)) (all_below n (λ j. not (has step j && has done j))) t) j k) s)))))
 
   -- the limits
-  roomy-class : (s : State) (step k : ℕ) → k < 8 → roomy (moves_in g s) step k ≡ not (overfull g step k)
-  unfolding roomy moves_in overfull of_class
-  roomy-class s step k h =
-      ap₂ leb
-      (count_same 32 (λ j. has step j && has (get_or (eight (of_class g)) k 0) j)
+  roomy-class : (step k : ℕ) → roomy (class_at g k) step ≡ not (overfull g step k)
+  unfolding roomy class_at overfull of_class
+  roomy-class step k =
+      ap (λ (n : ℕ). leb n (limit g k))
+      (count_same 32 (λ j. has step j && has (of_class g k) j)
       (λ j. (has step j && eqb (class g j) k) && ltb j (operation_count g))
-      (λ j l. ap (λ (t : Bool). has step j && t) (ap (λ (m : ℕ). has m j) (eight-at (of_class g) k h) ∙ has-among (λ i. eqb (class g i) k) j l)
+      (λ j l. ap (λ (t : Bool). has step j && t) (has-among (λ i. eqb (class g i) k) j l)
       ∙ and-past (has step j) (ltb j (operation_count g)) (eqb (class g j) k))
       ∙ count_cut 32 (operation_count g) (λ j. has step j && eqb (class g j) k) (omega (arith, narrow)))
-      (eight-at (limit g) k h)
       ∙ leb-not (count_below (operation_count g) (λ j. has step j && eqb (class g j) k)) (limit g k)
 
   fits-limits : (s : State) (step : ℕ) → fits (moves_in g s) step ≡ all_below (class_count g) (λ k. not (overfull g step k))
   unfolding fits moves_in
   fits-limits s step =
-      ap (λ (k : ℕ). all_below k (roomy (moves_in g s) step)) all
-      ∙ all_same (class_count g) (roomy (moves_in g s) step) (λ k. not (overfull g step k))
-      (λ k h. roomy-class s step k (omega (arith, few-classes small)))
-    where
-      all : min (min (class_count g) 8) 8 ≡ class_count g
-      all = omega (arith, few-classes small)
+      first_of_eight (λ c. roomy c step) (class_at g) (class_count g) (omega (arith, few-classes small))
+      ∙ all_same (class_count g) (λ k. roomy (class_at g k) step) (λ k. not (overfull g step k)) (λ k h. roomy-class step k)
 
   -- the number of steps
   pub steps_all : (s : State) → (moves_in g s).steps ≡ 2 ^ operation_count g

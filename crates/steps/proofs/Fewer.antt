@@ -1,23 +1,27 @@
 -- Fewer members break no constraint but the demands: limits are monotone. So an allowed step stays allowed where the
 -- members below one of its members come down to those demanded. Assumes nothing.
-use Prim.Native.Nat.{ℕ, min, ◌+◌, ◌-◌, ◌*◌, ◌^◌, ◌/◌, ◌%◌, ◌≤◌, ◌<◌}
+use Prim.Native.Nat.{ℕ, ◌+◌, ◌-◌, ◌*◌, ◌^◌, ◌/◌, ◌%◌, ◌≤◌, ◌<◌}
 use native.Mathlib.Nat.{le_refl, le_trans, add_comm, eq-zero-or-pos, div_self, mod-lt, lt_of_le_of_lt}
 use native.Mathlib.Omega.{arith}
 use mathlib.Core.Path.{◌≡◌, refl, sym, ◌∙◌, ap, subst}
 use mathlib.Core.Logic.{⊎_elim}
 use mathlib.Core.Bool.{Bool, true, false, cond, not, ◌&&◌, ◌||◌, or-true}
 use lib.Bits.{bit_and, bit_or, and_le_l, and_le_r, or_shr}
+use Rattle.std.specs.Prelude.{Some, None}
 use lib.Dec.{T, eqb, ltb, leb→le, le→leb}
-use lib.ListN.{get_or}
+use lib.ListN.{take}
 use lib.Pow.{pow_pos, high}
 use borrow.Author.Tests.{eq-eqb, lt-ltb, le-ltb}
 use Rattle.machine.specs.Sets.{has, count_below}
 use Rattle.machine.proofs.Says.{Says, says_test, says_ltb, says_and}
 use Rattle.machine.proofs.Truth.{and_left, and_right, both, not-and, and-not, not-not_elim, not-not_intro, true_of, of_true}
-use Rattle.machine.proofs.Sets.{le-or-lt, all-at, all_of, any_failed, none_any, count_mono, has-zero, has_above, has-mod, has-power, set_ext, member_below, set_below}
+use Rattle.machine.proofs.Sets.{le-or-lt, any_failed, none_any, count_mono, has-zero, has_above, has-mod, has-power, set_ext, member_below, set_below}
 use Rattle.masks.proofs.Bits.{has-and, has-or, has_opposite, has-shift, or-one}
-use Rattle.steps.specs.Moves.{apart, within, roomy, fits, raised, allows}
+use Rattle.steps.specs.Moves.{apart, within, roomy, fits, raised, allows, step_from, next_of}
 use Rattle.steps.specs.declared.Moves.{Moves}
+use Rattle.steps.specs.declared.Class.{Class}
+use Rattle.std.specs.List.{list_all}
+use mathlib.Core.List.{List, [], ◌∷◌}
 use Rattle.steps.proofs.Above.{lowered}
 
 -- every member of a is a member of b
@@ -47,19 +51,29 @@ within_fewer a b m f t =
     none_any 32 (λ j. has a j && not (has m j)) (λ j h. and-not (has a j) (not (has m j)) (λ s.
     not-and (has b j) (not (has m j)) (any_failed 32 (λ j. has b j && not (has m j)) t j h) (f j s)))
 
+-- a test of each in a list, where one follows from another
+weaker : {A : Type 0} (f h : A → Bool) → ((x : A) → T (f x) → T (h x)) → (l : List A) → T (list_all f l) → T (list_all h l)
+weaker f h i [] t = tt
+weaker f h i (x ∷ l) t =
+    both (h x) (list_all h l) (i x (and_left (f x) (list_all f l) t)) (weaker f h i l (and_right (f x) (list_all f l) t))
+
+roomy_fewer : (a b : ℕ) → Fewer a b → (c : Class) → T (roomy c b) → T (roomy c a)
+unfolding roomy
+roomy_fewer a b f c t =
+    le→leb (members a) c.limit
+    (le_trans (count_mono 32 (λ j. has a j && has c.members j) (λ j. has b j && has c.members j)
+    (λ j l s. both (has b j) (has c.members j) (f j (and_left (has a j) (has c.members j) s))
+    (and_right (has a j) (has c.members j) s)))
+    (leb→le (members b) c.limit t))
+  where
+    members : ℕ → ℕ
+    members m = count_below 32 (λ j. has m j && has c.members j)
+
 -- limits are monotone
 pub fits_fewer : (moves : Moves) (a b : ℕ) → Fewer a b → T (fits moves b) → T (fits moves a)
-unfolding fits roomy
+unfolding fits
 fits_fewer moves a b f t =
-    all_of (min moves.classes 8) (roomy moves a) (λ k h.
-    le→leb (members a k) (get_or moves.limits k 0)
-    (le_trans (count_mono 32 (λ j. has a j && has (get_or moves.members k 0) j) (λ j. has b j && has (get_or moves.members k 0) j)
-    (λ j l s. both (has b j) (has (get_or moves.members k 0) j) (f j (and_left (has a j) (has (get_or moves.members k 0) j) s))
-    (and_right (has a j) (has (get_or moves.members k 0) j) s)))
-    (leb→le (members b k) (get_or moves.limits k 0) (all-at (min moves.classes 8) (roomy moves b) t k h))))
-  where
-    members : ℕ → ℕ → ℕ
-    members m k = count_below 32 (λ j. has m j && has (get_or moves.members k 0) j)
+    weaker (λ c. roomy c b) (λ c. roomy c a) (roomy_fewer a b f) (take moves.class_count moves.classes) t
 
 has_lowered : (y j low i : ℕ) → has (lowered y j low) i ≡ cond (ltb i j) (has low i) (has y i)
 unfolding lowered
@@ -223,3 +237,12 @@ allows-ready moves b d step i h t =
 -- an allowed step is below the number of steps
 pub allows-below : (moves : Moves) (step : ℕ) → T (allows moves step) → step < moves.steps
 allows-below moves step t = ((says_allows moves step).to t).below
+
+-- what the search gives: the least step from a number on, or none where that is the number of steps
+pub next_some : (moves : Moves) (from step : ℕ) → step ≡ step_from moves from → step < moves.steps → Some step ≡ next_of moves from
+unfolding next_of
+next_some moves from step e h = rw (← e, lt-ltb step moves.steps h) refl
+
+pub next_none : (moves : Moves) (from : ℕ) → moves.steps ≡ step_from moves from → None ≡ next_of moves from
+unfolding next_of
+next_none moves from e = rw (← e, le-ltb moves.steps moves.steps (le_refl moves.steps)) refl

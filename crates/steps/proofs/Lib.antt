@@ -5,5 +5,5 @@ pub mod After
 pub mod Above
 pub mod Fewer
 pub mod Eights
-pub mod Unique
 pub mod Outcomes
+pub mod Ranges

@@ -2,12 +2,13 @@
 use Prim.Native.Nat.{ℕ, ◌-◌, ◌^◌, ◌<◌}
 use native.Mathlib.Nat.{lt_of_le_of_lt, eq-zero-or-pos}
 use native.Mathlib.Omega.{arith}
-use mathlib.Core.Path.{◌≡◌, refl, sym, ◌∙◌, ap, ap₂}
+use mathlib.Core.Path.{◌≡◌, sym, ◌∙◌, ap, ap₂}
 use mathlib.Core.Logic.{⊎_elim}
-use mathlib.Core.Bool.{Bool, true, false, not, ◌&&◌}
+use mathlib.Core.Bool.{Bool, not, ◌&&◌}
 use lib.Bits.{bit_and, and_le_l}
 use lib.Dec.{eqb, ltb, eqb→eq}
 use borrow.Author.Tests.{eq-eqb, ne_eqb, lt-ltb, le-ltb}
+use Rattle.std.proofs.Math.Bool.{and_assoc}
 use Rattle.machine.specs.Sets.{has, any_below, mask_below}
 use Rattle.machine.proofs.Sets.{any_same, has-mask, mask_lt}
 use Rattle.masks.proofs.Bits.{has-and, has_opposite, is_mask, share_test, lack_test}
@@ -77,10 +78,6 @@ allows_tested m step h u d =
     (sym (share_test 32 step m.held h)))
     (sym (share_test 32 step m.excluded h))) (sym (lack_test 32 m.demanded step d h)))
   where
-    and_assoc : (a b c : Bool) → ((a && b) && c) ≡ (a && (b && c))
-    and_assoc true b c = refl
-    and_assoc false b c = refl
-
     filled : ltb 0 step ≡ not (eqb step 0)
     filled =
         ⊎_elim (λ (e : step ≡ 0). le-ltb 0 step (omega arith) ∙ sym (ap not (eq-eqb step 0 e)))

@@ -1,12 +1,15 @@
 -- What a clock may do in a state, as masks made once, and the test of a step by them.
-use Rattle.std.specs.Prelude.{ℕ, min, ◌+◌, ◌*◌, ◌^◌, ◌/◌, ◌%◌, ◌<◌, ◌≡◌, Bool, cond, not, ◌&&◌, ◌||◌, List, [], ◌∷◌, length, get_or, eqb, leb, ltb}
-use Rattle.machine.specs.Sets.{has, all_below, any_below, count_below, first_below, mask_below}
+use Rattle.std.specs.Prelude.{ℕ, min, ◌+◌, ◌*◌, ◌^◌, ◌/◌, ◌%◌, ◌≡◌, Bool, cond, not, ◌&&◌, ◌||◌, List, [], ◌∷◌, get_or, take, Option, Some, None, eqb, leb, ltb}
+use Rattle.std.specs.List.{list_all}
+use Rattle.std.proofs.Math.ListN.{set}
+use Rattle.machine.specs.Sets.{has, any_below, count_below, first_below, mask_below}
 use Rattle.meaning.specs.Graph.{Graph, operation_count, class_count, control_count, arc_count, limit, class, producer, source, target, kind}
 use Rattle.meaning.specs.Steps.{State, void, excluded, held_back, demanded}
 use Rattle.masks.specs.Width.{set_width}
+use Rattle.steps.specs.declared.Class.{Class}
 use Rattle.steps.specs.declared.Moves.{Moves}
-use Rattle.steps.specs.declared.Pulls.{Pulls}
-use Rattle.steps.specs.declared.Sorted.{Sorted}
+use Rattle.steps.specs.declared.standing.Pulls.{Pulls}
+use Rattle.steps.specs.declared.standing.Sorted.{Sorted}
 
 -- the operations of the graph at which f holds, as far as a set reaches
 unfoldable pub among : Graph → (ℕ → Bool) → ℕ
@@ -34,26 +37,27 @@ pub record Pulled (g : Graph) (s : State) (r : Pulls) : Type 0 where
   pub demanded : r.demanded ≡ targets g (arc_count g) (demanding g s.done)
 
 -- what f gives at 0 to 7
-abbrev pub eight : (ℕ → ℕ) → List ℕ
+abbrev pub eight : {A : Type 0} → (ℕ → A) → List A
 eight f = f 0 ∷ f 1 ∷ f 2 ∷ f 3 ∷ f 4 ∷ f 5 ∷ f 6 ∷ f 7 ∷ []
 
 -- the operations of class k
 unfoldable pub of_class : Graph → ℕ → ℕ
 of_class g k = among g (λ j. eqb (class g j) k)
 
--- eight sets
-pub record Sets (members : List ℕ) : Type 0 where
-  pub size : length members ≡ 8
-  pub small : (k : ℕ) → get_or members k 0 < 2 ^ set_width
+-- the class with its operations and its limit
+unfoldable pub class_at : Graph → ℕ → Class
+class_at g k = record { members = of_class g k; limit = limit g k }
 
--- eight sets, and j in that of the class
-unfoldable pub joined : List ℕ → ℕ → ℕ → List ℕ
-joined members class j = eight (λ k. mask_below set_width (λ i. has (get_or members k 0) i || (eqb class k && eqb j i)))
+-- the classes, and operation j in that of the number
+unfoldable pub joined : List Class → ℕ → ℕ → List Class
+joined classes class j =
+    let old = get_or classes class (record { members = 0; limit = 0 }) in
+    set classes class (record { members = mask_below set_width (λ i. has old.members i || eqb j i); limit = old.limit })
 
--- the operations excluded, and the members of each class
+-- the operations excluded, and the first eight classes
 pub record IsSorted (g : Graph) (done values : ℕ) (r : Sorted) : Type 0 where
   pub excluded : r.excluded ≡ among g (excluded g done values)
-  pub members : r.members ≡ eight (of_class g)
+  pub classes : r.classes ≡ eight (class_at g)
 
 -- how many steps n operations have; none where a set cannot hold them
 unfoldable pub step_count : ℕ → ℕ
@@ -68,9 +72,8 @@ moves_in g s =
       held = among g (held_back g s.done s.values);
       excluded = among g (excluded g s.done s.values);
       demanded = among g (demanded g s.done s.values);
-      classes = min (class_count g) 8;
-      members = eight (of_class g);
-      limits = eight (limit g);
+      class_count = min (class_count g) 8;
+      classes = eight (class_at g);
     }
 
 -- no member of a is a member of b
@@ -85,14 +88,14 @@ within a b = not (any_below set_width (λ j. has a j && not (has b j)))
 unfoldable pub least_from : ℕ → (ℕ → Bool) → ℕ → ℕ
 least_from b f x = first_below b (λ y. leb x y && f y)
 
-module _ (m : Moves) where
-  -- class k has no more members in the step than its limit
-  unfoldable pub roomy : ℕ → ℕ → Bool
-  roomy step k = leb (count_below set_width (λ j. has step j && has (get_or m.members k 0) j)) (get_or m.limits k 0)
+-- the step has no more members of the class than its limit
+unfoldable pub roomy : Class → ℕ → Bool
+roomy c step = leb (count_below set_width (λ j. has step j && has c.members j)) c.limit
 
+module _ (m : Moves) where
   -- none of the classes has more members in the step than its limit
   unfoldable pub fits : ℕ → Bool
-  fits step = all_below (min m.classes 8) (roomy step)
+  fits step = list_all (λ c. roomy c step) (take m.class_count m.classes)
 
   -- The moves allow the step: not empty, a step, and only operations that are not done; dependency; resource; exclusion;
   -- immediacy.
@@ -108,6 +111,10 @@ module _ (m : Moves) where
   -- the least step that the moves allow from a number on; the number of steps where there is none
   unfoldable pub step_from : ℕ → ℕ
   step_from from = least_from m.steps allows from
+
+  -- that step, and none where it is the number of steps
+  unfoldable pub next_of : ℕ → Option ℕ
+  next_of from = cond (ltb (step_from from) m.steps) (Some (step_from from)) None
 
 -- x raised at j, where it has no member: j joins, and below j are the members of low
 unfoldable pub raised : ℕ → ℕ → ℕ → ℕ

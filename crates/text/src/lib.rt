@@ -1,4 +1,5 @@
-// Text in a lent buffer: bytes, and numbers in decimal. What has no room in the buffer is left out.
+// Text in a lent buffer: bytes, and numbers in decimal. What has no room in the buffer is left out. `laid`, which both functions
+// promise, needs the buffer and the place.
 
 #![tactic(auto)]
 
@@ -13,32 +14,29 @@ const MOST_DIGITS: usize = 20;
 pub fn put(out: &mut [u8], at: usize, bytes: &[u8])
     ensures { out.new ≡ laid out.old at bytes.now }
 {
-    let mut to = at;
-    let mut i = 0;
-    while to < out.len() {
-        if i == bytes.len() {
-            return;
-        }
-        out[to] = bytes[i];
-        to += 1;
-        i += 1;
+    if at < out.len() {
+        let count = bytes.len().min(out.len() - at);
+        out[at..at + count].copy_from_slice(&bytes[..count]);
     }
 }
 
 // Writes a number in decimal from `at` on, and answers how many digits it has.
+#[tactic(auto, using(crate::proofs::Digits::all_counted, crate::proofs::Digits::all_written))]
 pub fn put_decimal(out: &mut [u8], at: usize, number: u64) -> usize
     ensures counted { Counted (decimal number) result }
     ensures out_after { out.new ≡ laid out.old at (decimal number) }
 {
+    // The last digit is written first; the number runs out before the places do.
     let mut digits = [0u8; MOST_DIGITS];
-    let mut first = MOST_DIGITS - 1;
     let mut rest = number;
-    while 10 <= rest {
+    for first in (0..MOST_DIGITS).rev() {
+        if rest < 10 {
+            digits[first] = b'0' + rest as u8;
+            put(out, at, &digits[first..]);
+            return MOST_DIGITS - first;
+        }
         digits[first] = b'0' + (rest % 10) as u8;
         rest = rest / 10;
-        first -= 1;
     }
-    digits[first] = b'0' + rest as u8;
-    put(out, at, &digits[first..]);
-    MOST_DIGITS - first
+    unreachable!()
 }

@@ -4,154 +4,110 @@
 
 #![tactic(auto)]
 
-use reader::Read;
+use parts::Graph;
 use std::io;
-use writer::Written;
 
 // A graph that is taken, of 50 bytes. Operation 0 decides control 0; 1, on its true side, decides control 1; 2 stands on both
 // true sides, 3 on the false side of control 0, 4 on none. Arcs 1 to 2, 2 to 4 by both true sides, and 3 to 4 by the false side.
-const LIMITS: [u8; 2] = *b"\x01\x01";
+const GRAPH: Graph<'static> = Graph {
+    edition: 1,
+    limits: b"\x01\x01",
+    operations: &OPERATIONS,
+    controls: b"\x00\x01",
+    arcs: &ARCS,
+};
 
 const OPERATIONS: [u8; 15] = *b"\x00\x00\x00\x01\x01\x00\x01\x03\x00\x01\x00\x01\x00\x00\x00";
 
-const CONTROLS: [u8; 2] = *b"\x00\x01";
-
 const ARCS: [u8; 15] = *b"\x01\x02\x00\x00\x00\x02\x04\x00\x03\x00\x03\x04\x00\x00\x01";
-
-fn print(rt: &impl Print, n: usize) -> io::Result<()> {
-    rt.write_all(b" ")?;
-    rt.print(n)
-}
-
-fn print_byte(rt: &impl Print, x: u8) -> io::Result<()> {
-    print(rt, x as usize)
-}
-
-fn print_bytes(rt: &impl Print, bytes: &[u8]) -> io::Result<()> {
-    let mut i = 0;
-    while i < bytes.len() {
-        print_byte(rt, bytes[i])?;
-        i += 1;
-    }
-    Ok(())
-}
 
 // What the reader says of a file.
 fn print_reading(rt: &impl Print, file: &[u8]) -> io::Result<()> {
     match reader::read_graph(file) {
-        Read::Refused { number, place } => {
-            rt.write_all(b", refused")?;
-            print(rt, number as usize)?;
-            print(rt, place)?;
-        }
-        Read::Taken {
-            operations,
-            classes,
-            controls,
-            arcs,
-        } => {
-            rt.write_all(b", read")?;
-            print(rt, operations)?;
-            print(rt, classes)?;
-            print(rt, controls)?;
-            print(rt, arcs)?;
-        }
+        Err(fault) => print!(rt; ", {fault}"),
+        Ok(counts) => print!(rt;
+            ", read {} {} {} {}",
+            counts.operations, counts.classes, counts.controls, counts.arcs
+        ),
     }
-    Ok(())
 }
 
-fn write(
-    rt: &impl Print,
-    edition: u8,
-    operations: &[u8],
-    limits: &[u8],
-    controls: &[u8],
-    arcs: &[u8],
-    output: &mut [u8],
-) -> io::Result<()> {
-    match writer::write(edition, operations, limits, controls, arcs, output) {
-        Written::Refused { number, place } => {
-            rt.write_all(b"refused")?;
-            print(rt, number as usize)?;
-            print(rt, place)?;
-        }
-        Written::Done { length } => {
-            rt.write_all(b"written")?;
-            print(rt, length)?;
-            if length <= output.len() {
-                print_reading(rt, &output[0..length])?;
+fn write(rt: &impl Print, graph: &Graph, output: &mut [u8]) -> io::Result<()> {
+    match writer::write(graph, output) {
+        Err(fault) => print!(rt; "{fault}")?,
+        Ok(length) => {
+            print!(rt; "written {length}")?;
+            if let Some(file) = output.get(..length) {
+                print_reading(rt, file)?;
             }
         }
     }
     if output.len() < 64 {
-        rt.write_all(b":")?;
-        print_bytes(rt, output)?;
+        print!(rt; ":")?;
+        for byte in output.iter() {
+            print!(rt; " {byte}")?;
+        }
     }
-    rt.write_all(b"\n")
+    println!(rt)
 }
 
 // Into an output of so many sevens.
-fn into(
-    rt: &impl Print,
-    edition: u8,
-    operations: &[u8],
-    limits: &[u8],
-    controls: &[u8],
-    arcs: &[u8],
-    room: usize,
-) -> io::Result<()> {
-    let mut output = [7u8; 1484];
-    if room <= 1484 {
-        write(
-            rt,
-            edition,
-            operations,
-            limits,
-            controls,
-            arcs,
-            &mut output[0..room],
-        )?;
+fn into(rt: &impl Print, graph: &Graph, room: usize) -> io::Result<()> {
+    let mut sevens = [7u8; 1484];
+    match sevens.get_mut(..room) {
+        Some(output) => write(rt, graph, output),
+        None => Ok(()),
     }
-    Ok(())
 }
 
 // A list of 15 bytes with the byte at i set to x.
 fn changed(list: [u8; 15], i: usize, x: u8) -> [u8; 15] {
     let mut other = list;
-    if i < 15 {
-        other[i] = x;
+    if let Some(byte) = other.get_mut(i) {
+        *byte = x;
     }
     other
 }
 
-// The graph with a byte of its operations changed, with other controls, or with a byte of its arcs changed.
+// The graph with a byte of its operations changed, with other controls, or with a byte of its arcs changed. Plainer so than with the
+// list as an argument: a case says by its name what it changes.
 fn operation(rt: &impl Print, i: usize, x: u8, room: usize) -> io::Result<()> {
     let operations = changed(OPERATIONS, i, x);
-    into(rt, 1, &operations, &LIMITS, &CONTROLS, &ARCS, room)
+    into(
+        rt,
+        &Graph {
+            operations: &operations,
+            ..GRAPH
+        },
+        room,
+    )
 }
 
 fn control(rt: &impl Print, controls: &[u8], room: usize) -> io::Result<()> {
-    into(rt, 1, &OPERATIONS, &LIMITS, controls, &ARCS, room)
+    into(rt, &Graph { controls, ..GRAPH }, room)
 }
 
 fn arc(rt: &impl Print, i: usize, x: u8, room: usize) -> io::Result<()> {
     let arcs = changed(ARCS, i, x);
-    into(rt, 1, &OPERATIONS, &LIMITS, &CONTROLS, &arcs, room)
+    into(
+        rt,
+        &Graph {
+            arcs: &arcs,
+            ..GRAPH
+        },
+        room,
+    )
 }
 
-// The first n bytes.
+// The first n bytes, or all.
 fn front<'a>(bytes: &'a [u8], n: usize) -> &'a [u8] {
-    if n <= bytes.len() {
-        &bytes[0..n]
-    } else {
-        bytes
-    }
+    bytes.get(..n).unwrap_or(bytes)
 }
 
-// Lists of zeros of these lengths.
+// Lists of zeros of these lengths. Plainer so: each case below is one line of numbers.
 fn zeros(
     rt: &impl Print,
-    edition: u8,
+    edition: u32,
     operations: usize,
     limits: usize,
     controls: usize,
@@ -159,23 +115,27 @@ fn zeros(
     room: usize,
 ) -> io::Result<()> {
     let all = [0u8; 1484];
-    into(
-        rt,
+    let graph = Graph {
         edition,
-        front(&all, operations),
-        front(&all, limits),
-        front(&all, controls),
-        front(&all, arcs),
-        room,
-    )
+        limits: front(&all, limits),
+        operations: front(&all, operations),
+        controls: front(&all, controls),
+        arcs: front(&all, arcs),
+    };
+    into(rt, &graph, room)
 }
 
 // Case A, with two bytes of room past the file, with none, and with one byte too few; all four lists; nothing at all.
 fn successes(rt: &impl Print) -> io::Result<()> {
-    let case_a = *b"\x00\x00\x00\x01\x01\x00\x01\x00\x01";
-    into(rt, 1, &case_a, b"\x01\x01", b"\x00", b"", 30)?;
-    into(rt, 1, &case_a, b"\x01\x01", b"\x00", b"", 28)?;
-    into(rt, 1, &case_a, b"\x01\x01", b"\x00", b"", 27)?;
+    let case_a = Graph {
+        operations: b"\x00\x00\x00\x01\x01\x00\x01\x00\x01",
+        controls: b"\x00",
+        arcs: b"",
+        ..GRAPH
+    };
+    into(rt, &case_a, 30)?;
+    into(rt, &case_a, 28)?;
+    into(rt, &case_a, 27)?;
     operation(rt, 0, 0, 52)?;
     zeros(rt, 1, 0, 0, 0, 0, 18)?;
     zeros(rt, 1, 0, 0, 0, 0, 15)

@@ -1,30 +1,27 @@
 -- `checker::check` meets its contract. Assumes nothing.
-use mathlib.Core.Path.{sym, ◌∙◌, ap}
-use Rattle.meaning.proofs.Taken.{accepted_of}
-use Rattle.reader.specs.Reading.{verdict_of, values_of as read_values}
-use Rattle.reader.proofs.Verdicts.{read_taken}
+use mathlib.Core.Path.{◌≡◌, sym, ◌∙◌, ap}
+use Rattle.std.proofs.Common.{rules}
+use Rattle.std.specs.Prelude.{Err}
+use Rattle.refusals.specs.Faults.{verdict_of}
 use Rattle.checker.proofs.Verdicts.{graph-refused, table-refused, table-accepted}
 use Rattle.checker.proofs.check.Goals as goal
 
-pub table_fault-requires : goal.table_fault-requires
-table_fault-requires c =
-    (accepted_of _ (read_taken _ _ _ _ _ (sym (ap read_values c.in-Taken.is) ∙ c.read_graph.ensures))).within
-
-pub returns-in-Refused : goal.returns-in-Refused
-returns-in-Refused c =
-    graph-refused _ _ _ _ (sym (ap read_values c.in-Refused.is) ∙ c.read_graph.ensures)
-
-pub returns-in-At : goal.returns-in-At
+pub returns-in_err-taken : goal.returns-in_err-taken
 unfolding verdict_of
-returns-in-At c =
-    table-refused _ _ _ _
-    (read_taken _ _ _ _ _ (sym (ap read_values c.in-Taken.is) ∙ c.read_graph.ensures))
-    (sym c.table_fault.ensures ∙ ap verdict_of c.in-At.is)
+returns-in_err-taken c =
+    let e : c.from_residual.result ≡ Err c.in_err-taken.field-0.0 = search rules in
+    rw e (graph-refused _ _ _ (sym c.take.ensures.verdict ∙ ap verdict_of c.in_err-taken.was))
 
-pub returns-in-Passed : goal.returns-in-Passed
+pub returns-in_err-judge : goal.returns-in_err-judge
 unfolding verdict_of
-returns-in-Passed c =
-    table-accepted _ _ _ _
-    (read_taken _ _ _ _ _ (sym (ap read_values c.in-Taken.is) ∙ c.read_graph.ensures))
-    (sym c.table_fault.ensures ∙ ap verdict_of c.in-Passed.is) c.cycles.ensures
-    c.row_count.ensures.right
+returns-in_err-judge c =
+    let e : c.from_residual-in_err-judge.result ≡ Err c.in_err-judge.field-0.0 = search rules in
+    rw e (table-refused _ _ _ (sym c.take.ensures.verdict ∙ ap verdict_of c.in_ok-taken.was)
+    (rw (← c.in_ok-taken.ensures.graph.graph) (sym c.judge.ensures ∙ ap verdict_of c.in_err-judge.was)))
+
+pub returns : goal.returns
+unfolding verdict_of
+returns c =
+    table-accepted _ _ _ _ (sym c.take.ensures.verdict ∙ ap verdict_of c.in_ok-taken.was)
+    (rw (← c.in_ok-taken.ensures.graph.graph) (sym c.judge.ensures ∙ ap verdict_of c.in_ok-judge.was))
+    c.cycles.ensures c.row_count.ensures.right

@@ -4,12 +4,6 @@ use Rattle.reader.specs.Reading.{values_of}
 use Rattle.modeurwan.specs.Numbers.{number_of, place_of, reading_numbers}
 use Rattle.modeurwan.proofs.modeurwan_read.Goals as goal
 
-pub returns-in-Refused : goal.returns-in-Refused
+pub returns-in-Ok : goal.returns-in-Ok
 unfolding number_of place_of reading_numbers values_of
-returns-in-Refused c =
-    ap reading_numbers (sym (ap values_of c.in-Refused.is) ∙ c.read_graph.ensures)
-
-pub returns-in-Taken : goal.returns-in-Taken
-unfolding number_of place_of reading_numbers values_of
-returns-in-Taken c =
-    ap reading_numbers (sym (ap values_of c.in-Taken.is) ∙ c.read_graph.ensures)
+returns-in-Ok c = ap reading_numbers (sym (ap values_of c.in-Ok.is) ∙ c.read_graph.ensures)

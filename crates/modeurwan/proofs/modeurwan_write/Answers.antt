@@ -4,18 +4,11 @@ use Rattle.writer.specs.Promise.{values_of}
 use Rattle.modeurwan.specs.Numbers.{number_of, place_of, writing_numbers}
 use Rattle.modeurwan.proofs.modeurwan_write.Goals as goal
 
-pub returns-in-Refused : goal.returns-in-Refused
+pub returns-in-Ok : goal.returns-in-Ok
 unfolding number_of place_of writing_numbers values_of
-returns-in-Refused c =
-    record {
-      answers = ap writing_numbers (sym (ap values_of c.in-Refused.is) ∙ c.write.ensures.answers);
+returns-in-Ok c =
+    rw (← c.from.ensures)
+    (record {
+      answers = ap writing_numbers (sym (ap values_of c.in-Ok.is) ∙ c.write.ensures.answers);
       writes = c.write.ensures.writes;
-    }
-
-pub returns-in-Done : goal.returns-in-Done
-unfolding number_of place_of writing_numbers values_of
-returns-in-Done c =
-    record {
-      answers = ap writing_numbers (sym (ap values_of c.in-Done.is) ∙ c.write.ensures.answers);
-      writes = c.write.ensures.writes;
-    }
+    })

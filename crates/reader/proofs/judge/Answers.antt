@@ -1,29 +1,33 @@
--- `reader::judge` meets its contract: the loop walks the table of refusals line by line. Assumes nothing.
-use Prim.Native.Nat.{zero-le}
-use native.Mathlib.Omega.{arith}
-use mathlib.Core.Path.{refl, sym, ◌∙◌}
-use Rattle.machine.specs.Refusals.{judge}
-use Rattle.machine.proofs.Refusals.{otherwise, walk_on}
+-- `reader::judge` meets its contract: each line counts where those before it pass. No answer names a test, so that another order
+-- of the tests is refused for what it answers. Assumes nothing.
+use Rattle.std.proofs.Common.{rules}
+use Rattle.machine.proofs.Refusals.{otherwise}
 use Rattle.meaning.specs.Graph.{content_lines}
-use Rattle.reader.specs.Reading.{verdict_of}
+use Rattle.refusals.specs.Faults.{verdict_of, fault_verdict}
+use Rattle.refusals.proofs.Chain.{in_turn, judge-in_turn, otherwise_taken}
+use Rattle.reader.specs.Reading.{line_of}
 use Rattle.reader.proofs.judge.Goals as goal
 
-pub lines-init : goal.lines-init
-lines-init c = record { within = zero-le; rest = refl }
+pub returns-in_err-classes : goal.returns-in_err-classes
+unfolding content_lines line_of in_turn otherwise verdict_of fault_verdict
+returns-in_err-classes c = rw judge-in_turn (search rules)
 
-pub lines-preserved : goal.lines-preserved
-unfolding verdict_of otherwise content_lines
-lines-preserved c =
-    record {
-      within = omega arith;
-      rest = walk_on c.lines.invariant (omega arith) c.line-fault.ensures ∙ rw c.in_default.is refl;
-    }
+pub returns-in_err-paths : goal.returns-in_err-paths
+unfolding content_lines line_of in_turn otherwise verdict_of fault_verdict
+returns-in_err-paths c = rw judge-in_turn (search rules)
 
-pub returns-then-i-eq-CONTENT_LINES : goal.returns-then-i-eq-CONTENT_LINES
-unfolding verdict_of judge content_lines
-returns-then-i-eq-CONTENT_LINES c = sym (c.lines.invariant.rest ∙ rw c.if-i-eq-CONTENT_LINES.true refl)
+pub returns-in_err-producers : goal.returns-in_err-producers
+unfolding content_lines line_of in_turn otherwise verdict_of fault_verdict
+returns-in_err-producers c = rw judge-in_turn (search rules)
 
-pub returns-in-At : goal.returns-in-At
-unfolding verdict_of otherwise content_lines
-returns-in-At c =
-    sym (walk_on c.lines.invariant (omega arith) c.line-fault.ensures ∙ rw c.in-At.is refl)
+pub returns-in_err-branches : goal.returns-in_err-branches
+unfolding content_lines line_of in_turn otherwise verdict_of fault_verdict
+returns-in_err-branches c = rw judge-in_turn (search rules)
+
+pub returns-in_err-arcs_fit : goal.returns-in_err-arcs_fit
+unfolding content_lines line_of in_turn otherwise verdict_of fault_verdict
+returns-in_err-arcs_fit c = rw judge-in_turn (search rules)
+
+pub returns : goal.returns
+unfolding content_lines line_of in_turn otherwise verdict_of
+returns c = rw (judge-in_turn, otherwise_taken) (search rules)

@@ -1,24 +1,20 @@
 -- `reader::read_graph` meets its contract. Assumes nothing.
-use mathlib.Core.Path.{refl, sym, ◌∙◌, ap}
-use Rattle.meaning.specs.Graph.{operations_of, classes_of, controls_of, arcs_of}
+use Rattle.std.proofs.Common.{rules}
+use mathlib.Core.Path.{◌≡◌, refl}
+use Rattle.std.specs.Prelude.{Err}
 use Rattle.meaning.specs.Answers.{reader, reading}
-use Rattle.reader.specs.Reading.{values_of, verdict_of}
+use Rattle.refusals.specs.Faults.{verdict_of, fault_verdict}
+use Rattle.reader.specs.Reading.{values_of}
 use Rattle.reader.proofs.read_graph.Goals as goal
 
-pub returns-in-At : goal.returns-in-At
-unfolding values_of verdict_of reader reading
-returns-in-At c =
-    let e = sym c.file_fault.ensures ∙ ap verdict_of c.in-At.is in
-    rw e refl
+pub returns-in_err-take : goal.returns-in_err-take
+unfolding values_of verdict_of fault_verdict reader reading
+returns-in_err-take c =
+    let e : c.from_residual.result ≡ Err c.in_err-take.field-0.0 = search rules in
+    rw (← c.take.ensures.verdict, c.in_err-take.was, e) refl
 
-pub returns-in-Passed : goal.returns-in-Passed
-unfolding values_of verdict_of reader reading operations_of classes_of controls_of arcs_of
-returns-in-Passed c =
-    rw (
-      ← c.file_fault.ensures,
-      c.in-Passed.is,
-      c.byte.ensures.right,
-      c.byte-in-Passed.ensures.right,
-      c.byte-in-Passed-2.ensures.right,
-      c.pair.ensures.right,
-    ) refl
+pub returns : goal.returns
+unfolding values_of verdict_of reader reading
+returns c =
+    let n = c.of_header.ensures in
+    rw (← c.take.ensures.verdict, c.in_ok-take.was, n.operations, n.classes, n.controls, n.arcs) refl

@@ -1,45 +1,48 @@
 -- `writer::write` meets its contract. Assumes nothing.
-use mathlib.Core.Path.{◌≡◌, sym, ◌∙◌, ap}
-use mathlib.Core.Bool.{false, not}
-use Rattle.meaning.specs.Graph.{Graph, graph_of}
-use Rattle.meaning.specs.Answers.{is_taken}
-use Rattle.meaning.proofs.Writer.{listed_exactly, file-length}
-use Rattle.writer.proofs.Verdicts.{lists_pass, lists_verdict, fault-verdict, refused_promised, done_promised}
-use Rattle.writer.proofs.FileLaws.{file_short}
+use Rattle.std.proofs.Common.{rules}
+use mathlib.Core.Path.{◌≡◌, refl}
+use Rattle.machine.specs.Refusals.{taken, judge}
+use Rattle.machine.proofs.Refusals.{otherwise}
+use Rattle.meaning.specs.Graph.{Graph, content_lines}
+use Rattle.meaning.specs.Writer.{list_lines}
+use Rattle.parts.specs.Fields.{graph_in}
+use Rattle.refusals.specs.Faults.{number_of, verdict_of, fault_verdict}
+use Rattle.writer.proofs.FileLaws.{file_ends}
+use Rattle.writer.proofs.Verdicts.{whole-verdict, refused_promised, done_promised}
 use Rattle.writer.proofs.write.Goals as goal
 
-pub returns-then-not-passed : goal.returns-then-not-passed
-returns-then-not-passed c =
-    let a = c.args in
-    let g : Graph = graph_of a.edition a.limits.now a.operations.now a.controls.now a.arcs.now in
-    let refused : is_taken _ ≡ false = sym c.passed.ensures ∙ c.if-not-passed.true in
-    refused_promised g a.output.now 0 (lists_verdict g a.output.now c.list_fault-listed.ensures refused) refused c.answer.ensures
+pub returns-in_err-layout : goal.returns-in_err-layout
+unfolding otherwise verdict_of fault_verdict
+returns-in_err-layout c =
+    let g : Graph = graph_in c.args.graph.now in
+    refused_promised g c.args.output.now c.in_err-layout.field-0.0 (search rules)
+    (rw (whole-verdict, ← c.of.ensures.verdict, c.in_err-layout.was) refl)
 
-pub starts_of-starts-requires : goal.starts_of-starts-requires
-starts_of-starts-requires c =
-    file_short ((listed_exactly _).0 (lists_pass _ c.list_fault-listed.ensures c.passed.ensures (ap not c.if-not-passed.false)))
+pub returns-in_err-judge : goal.returns-in_err-judge
+unfolding otherwise verdict_of fault_verdict
+returns-in_err-judge c =
+    let g : Graph = graph_in c.args.graph.now in
+    refused_promised g c.args.output.now c.in_err-judge.field-0.0 (search rules)
+    (rw (whole-verdict, ← c.of.ensures.verdict, c.in_ok-layout.was, ← c.judge.ensures, c.in_err-judge.was) refl)
 
-pub put_file-requires : goal.put_file-requires
-put_file-requires c = record {
-  listed = (listed_exactly _).0 (lists_pass _ c.list_fault-listed.ensures c.passed.ensures (ap not c.if-not-passed.false));
-  starts_of = c.starts_of-starts.ensures;
-}
+pub returns-in_err-refuse_if : goal.returns-in_err-refuse_if
+unfolding otherwise number_of verdict_of fault_verdict
+returns-in_err-refuse_if c =
+    let g : Graph = graph_in c.args.graph.now in
+    let same : graph_in c.in_ok-layout.layout.graph ≡ g = search rules in
+    let lists : judge (list_lines g) ≡ taken = search rules in
+    let content : judge (content_lines g) ≡ taken = search rules in
+    refused_promised g c.args.output.now c.in_err-refuse_if.field-0.0 (search rules)
+    (rw (whole-verdict, lists, content, ← file_ends same c.in_ok-layout.layout.stands, ← c.refuse_if.ensures, c.in_err-refuse_if.was) refl)
 
-pub returns-then-passed : goal.returns-then-passed
-returns-then-passed c =
-    let a = c.args in
-    let g : Graph = graph_of a.edition a.limits.now a.operations.now a.controls.now a.arcs.now in
-    let end = c.starts_of-starts.ensures.ends ∙ sym (file-length g) in
-    let pass = lists_pass g c.list_fault-listed.ensures c.passed.ensures (ap not c.if-not-passed.false) in
-    let verdict = fault-verdict g a.output.now pass c.judge-content.ensures end c.refusal-room.ensures c.first-fault.ensures in
-    done_promised g a.output.now verdict (sym c.passed-2.ensures ∙ c.if-passed.true) end
-    c.answer-answer.ensures c.put_file.ensures
-
-pub returns-else-passed : goal.returns-else-passed
-returns-else-passed c =
-    let a = c.args in
-    let g : Graph = graph_of a.edition a.limits.now a.operations.now a.controls.now a.arcs.now in
-    let end = c.starts_of-starts.ensures.ends ∙ sym (file-length g) in
-    let pass = lists_pass g c.list_fault-listed.ensures c.passed.ensures (ap not c.if-not-passed.false) in
-    let verdict = fault-verdict g a.output.now pass c.judge-content.ensures end c.refusal-room.ensures c.first-fault.ensures in
-    refused_promised g a.output.now _ verdict (sym c.passed-2.ensures ∙ c.if-passed.false) c.answer-answer.ensures
+pub returns : goal.returns
+unfolding otherwise number_of verdict_of fault_verdict
+returns c =
+    let g : Graph = graph_in c.args.graph.now in
+    let same : graph_in c.in_ok-layout.layout.graph ≡ g = search rules in
+    let lists : judge (list_lines g) ≡ taken = search rules in
+    let content : judge (content_lines g) ≡ taken = search rules in
+    let end = file_ends same c.in_ok-layout.layout.stands in
+    done_promised g c.args.output.now
+    (rw (whole-verdict, lists, content, ← end, ← c.refuse_if.ensures, c.in_ok-refuse_if.was) refl) end
+    (rw (← same) c.put.ensures)

@@ -1,24 +1,25 @@
 -- `checker::rows::has_row` meets its contract. Assumes nothing.
+use Prim.Native.Nat.{ℕ, suc}
 use native.Mathlib.Omega.{arith}
-use mathlib.Core.Path.{sym, ◌∙◌}
-use borrow.Author.Count.{below_none, below_more}
-use Rattle.machine.specs.Tables.{has_row}
-use Rattle.machine.proofs.Loops.{any_found, any_none}
+use mathlib.Core.Path.{refl, ◌∙◌, ap}
+use mathlib.Core.Bool.{Bool}
+use Rattle.std.proofs.Common.{rules, tests}
+use Rattle.std.proofs.lemmas.Iterator.{YieldsList-from_range}
+use Rattle.std.proofs.lemmas.Iterator.Search.{any_from_yields_List}
+use Rattle.machine.specs.Sets.{any_below}
+use Rattle.machine.specs.Tables.{stands_at, has_row}
+use Rattle.meaning.specs.Steps.{machine_of}
 use Rattle.meaning.specs.TableFile.{table_in}
+use Rattle.parts.specs.Fields.{state_of}
+use Rattle.steps.proofs.Ranges.{any_of_range}
 use Rattle.checker.proofs.rows.has_row.Goals as goal
-
-pub returns-then-stands_at : goal.returns-then-stands_at
-unfolding has_row table_in
-returns-then-stands_at c g of =
-    sym (any_found _ _ _ (omega (arith, c.row_count-n.ensures.right))
-    (sym (c.stands_at.ensures g of) ∙ c.if-stands_at.true))
 
 pub returns : goal.returns
 unfolding has_row table_in
-returns c g of = sym (any_none _ _ _ (omega (arith, c.row_count-n.ensures.right)) (c.loop-i.invariant g of))
-
-pub loop-i-init : goal.loop-i-init
-loop-i-init c g of = below_none _
-
-pub loop-i-preserved : goal.loop-i-preserved
-loop-i-preserved c g of = below_more _ _ (c.loop-i.invariant g of) (sym (c.stands_at.ensures g of) ∙ c.if-stands_at.false)
+returns c g of =
+    let a = c.args in
+    let n = c.row_count.result in
+    let stands : ℕ → Bool = λ i. stands_at (machine_of g) (table_in g a.table.now.bytes.now) a.t (state_of a.s) (suc i) in
+    any_from_yields_List stands _ _ c.any.result c.any.ensures.ran (YieldsList-from_range 0 n n refl (omega arith))
+    (λ j b q k. search (rules, tests))
+    ∙ any_of_range stands n ∙ ap (λ (m : ℕ). any_below m stands) c.row_count.ensures.right

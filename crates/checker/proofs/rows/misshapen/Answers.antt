@@ -5,4 +5,4 @@ use Rattle.checker.proofs.rows.misshapen.Goals as goal
 
 pub returns : goal.returns
 unfolding layout_line
-returns c = cc (row_first c.args.edition)
+returns c = cc (row_first c.args.table.now.edition)

@@ -1,21 +1,23 @@
 -- `checker::sound::leads` meets its contract. Assumes nothing.
+use Prim.Native.Nat.{ℕ}
 use native.Mathlib.Omega.{arith}
-use mathlib.Core.Path.{sym, ◌∙◌}
-use borrow.Author.Count.{below_none, below_more}
-use Rattle.machine.proofs.Loops.{any_found, any_none}
+use mathlib.Core.Path.{refl, ◌∙◌, ap}
+use mathlib.Core.Bool.{Bool}
+use Rattle.std.proofs.Common.{rules, tests}
+use Rattle.std.proofs.lemmas.Iterator.{YieldsList-from_range}
+use Rattle.std.proofs.lemmas.Iterator.Search.{any_from_yields_List}
+use Rattle.machine.specs.Sets.{any_below}
+use Rattle.meaning.specs.Steps.{same}
+use Rattle.parts.specs.Fields.{state_of}
+use Rattle.steps.specs.Forks.{fallen}
+use Rattle.steps.proofs.Ranges.{any_of_range}
 use Rattle.checker.proofs.sound.leads.Goals as goal
 
-pub returns-then-same : goal.returns-then-same
-returns-then-same c =
-    sym (any_found _ _ c.loop-w.w (omega (arith, c.word_count-words.ensures))
-    (rw (← c.fallen.ensures) (sym c.same.ensures ∙ c.if-same.true)))
-
-pub loop-w-preserved : goal.loop-w-preserved
-loop-w-preserved c =
-    below_more _ _ c.loop-w.invariant (rw (← c.fallen.ensures) (sym c.same.ensures ∙ c.if-same.false))
-
 pub returns : goal.returns
-returns c = sym (any_none _ _ _ (omega (arith, c.word_count-words.ensures)) c.loop-w.invariant)
-
-pub loop-w-init : goal.loop-w-init
-loop-w-init c = below_none _
+unfolding same
+returns c =
+    let n = c.word_count.result in
+    let meets : ℕ → Bool = λ w. same (fallen c.args.fork w) (state_of c.args.s) in
+    any_from_yields_List meets _ _ c.any.result c.any.ensures.ran (YieldsList-from_range 0 n n refl (omega arith))
+    (λ j b q k. search (rules, tests))
+    ∙ any_of_range meets n ∙ ap (λ (m : ℕ). any_below m meets) c.word_count.ensures

@@ -3,59 +3,42 @@
 use native.Mathlib.Omega.{arith}
 use mathlib.Core.Path.{refl, sym}
 use mathlib.Core.Bool.{or-true}
-use mathlib.Core.List.{[]}
-use borrow.Author.Count.{below_none, below_more}
-use borrow.Author.Rules.{rules}
+use borrow.Author.Count.{below_more}
 use borrow.Author.Tests.{le-leb, lt-leb, eq-eqb, ne_eqb}
 use Rattle.machine.proofs.Loops.{any_found, any_none}
 use Rattle.machine.proofs.Refusals.{refused-at, taken-after}
-use Rattle.meaning.specs.Graph.{graph_of, control_count, content_lines}
-use Rattle.reader.specs.Reading.{verdict_of, line_of}
+use Rattle.meaning.specs.Graph.{content_lines, control_count}
+use Rattle.parts.specs.Fields.{graph_in}
+use Rattle.refusals.specs.Faults.{number_of, verdict_of, fault_verdict}
+use Rattle.reader.specs.Reading.{line_of}
 use Rattle.reader.proofs.content.producers.Goals as goal
 use Rattle.reader.proofs.content.producers.Invariants.{same}
 
-pub controls-init : goal.controls-init
-controls-init c = (c.operation_count-count.ensures _ refl refl, search rules, below_none _)
+pub loop-d-preserved : goal.loop-d-preserved
+loop-d-preserved c =
+    below_more _ _ c.loop-d.invariant
+    (rw (← c.producer-in-loop-d.ensures, ← c.producer-in-loop-d-2.ensures) (ne_eqb _ _ c.if-producer.false))
 
-pub earlier-init : goal.earlier-init
-earlier-init c = (search rules, below_none _)
-
-pub earlier-preserved : goal.earlier-preserved
-earlier-preserved c =
-    let a = c.args in
-    let g = graph_of a.edition [] a.operations.now a.controls.now [] in (
-      search rules,
-      below_more _ _ c.earlier.invariant.1
-          (rw (← c.producer-in-earlier.ensures g refl, ← c.producer-in-earlier-2.ensures g refl) (ne_eqb _ _ c.if-producer.false)),
-    )
-
-pub controls-preserved : goal.controls-preserved
+pub loop-b-preserved : goal.loop-b-preserved
 unfolding line_of content_lines
-controls-preserved c =
-    let a = c.args in
-    let i = c.controls.invariant in
-    let e = c.producer.ensures (graph_of a.edition [] a.operations.now a.controls.now []) refl in
-    let whole = lt-leb _ _ c.if-count-producer.false in
-    let none = any_none _ c.controls.b _ (omega arith) c.earlier.invariant.1 in
-    (i.0, search rules, below_more _ _ i.2 (rw (← i.0, none, ← e, whole) refl))
+loop-b-preserved c =
+    let none = any_none (same (graph_in c.args.graph.now) c.loop-b.b) c.loop-b.b c.loop-d.d (omega (arith, c.loop-d-test.false)) c.loop-d.invariant in
+    below_more _ _ c.loop-b.invariant
+    (rw (none, ← c.operation_count.ensures, ← c.producer.ensures, lt-leb _ _ c.if-operation_count-producer.false) refl)
 
-pub returns-then-b-controls : goal.returns-then-b-controls
-unfolding verdict_of line_of content_lines control_count
-returns-then-b-controls c = sym (taken-after _ _ c.controls.invariant.2 (omega arith))
-
-pub returns-then-count-producer : goal.returns-then-count-producer
-unfolding verdict_of line_of content_lines control_count
-returns-then-count-producer c =
-    let i = c.controls.invariant in
-    let a = c.args in
-    let e = c.producer.ensures (graph_of a.edition [] a.operations.now a.controls.now []) refl in
-    sym (refused-at _ _ i.2 (omega arith) (rw (← i.0, ← e, le-leb _ _ c.if-count-producer.true) refl))
+pub returns-then-operation_count-producer : goal.returns-then-operation_count-producer
+unfolding line_of content_lines control_count number_of verdict_of fault_verdict
+returns-then-operation_count-producer c =
+    sym (refused-at _ _ c.loop-b.invariant c.loop-b-test.true
+    (rw (← c.operation_count.ensures, ← c.producer.ensures, le-leb _ _ c.if-operation_count-producer.true) refl))
 
 pub returns-then-producer : goal.returns-then-producer
-unfolding verdict_of line_of content_lines control_count
+unfolding line_of content_lines control_count number_of verdict_of fault_verdict
 returns-then-producer c =
-    let a = c.args in
-    let g = graph_of a.edition [] a.operations.now a.controls.now [] in
-    let found = any_found (same g c.controls.b) c.controls.b c.earlier.d (omega arith)
-    (rw (← c.producer-in-earlier.ensures g refl, ← c.producer-in-earlier-2.ensures g refl) (eq-eqb _ _ c.if-producer.true)) in
-    sym (refused-at _ _ c.controls.invariant.2 (omega arith) (rw (found, or-true) refl))
+    let found = any_found (same (graph_in c.args.graph.now) c.loop-b.b) c.loop-b.b c.loop-d.d c.loop-d-test.true
+    (rw (← c.producer-in-loop-d.ensures, ← c.producer-in-loop-d-2.ensures) (eq-eqb _ _ c.if-producer.true)) in
+    sym (refused-at _ _ c.loop-b.invariant c.loop-b-test.true (rw (found, or-true) refl))
+
+pub returns-after-loop-b : goal.returns-after-loop-b
+unfolding line_of content_lines control_count verdict_of
+returns-after-loop-b c = sym (taken-after _ _ c.loop-b.invariant (omega (arith, c.loop-b-test.false)))

@@ -1,82 +1,28 @@
--- `reader::header::header` meets its contract. Assumes nothing.
-use mathlib.Core.Path.{refl}
-use borrow.Author.Tests.{lt-ltb, le-ltb, eq-eqb, ne_eqb}
+-- `reader::header::header` meets its contract: each line counts where those before it pass. Assumes nothing.
+use Rattle.std.proofs.Common.{rules}
+use Rattle.machine.proofs.Refusals.{otherwise}
 use Rattle.meaning.specs.Graph.{file_lines}
-use Rattle.reader.specs.Reading.{verdict_of, line_of}
-use Rattle.reader.proofs.Verdicts.{header-verdict}
+use Rattle.refusals.specs.Faults.{number_of, verdict_of, fault_verdict}
+use Rattle.refusals.proofs.Chain.{in_turn, judge-in_turn, otherwise_taken}
+use Rattle.reader.specs.Reading.{line_of}
 use Rattle.reader.proofs.header.header.Goals as goal
 
-pub returns-then-file-lt-HEADER_BYTES : goal.returns-then-file-lt-HEADER_BYTES
-unfolding verdict_of line_of file_lines
-returns-then-file-lt-HEADER_BYTES c = rw (header-verdict, lt-ltb _ _ c.if-file-lt-HEADER_BYTES.true) refl
+pub returns-in_err-refuse_if : goal.returns-in_err-refuse_if
+unfolding file_lines line_of number_of in_turn otherwise verdict_of fault_verdict
+returns-in_err-refuse_if c = rw judge-in_turn (search rules)
 
-pub returns-then-unmarked : goal.returns-then-unmarked
-unfolding verdict_of line_of file_lines
-returns-then-unmarked c = rw (header-verdict, le-ltb _ _ c.if-file-lt-HEADER_BYTES.false, ← c.unmarked.ensures, c.if-unmarked.true) refl
+pub returns-in_err-refuse_if-2 : goal.returns-in_err-refuse_if-2
+unfolding file_lines line_of number_of in_turn otherwise verdict_of fault_verdict
+returns-in_err-refuse_if-2 c = rw judge-in_turn (search rules)
 
-pub returns-then-overfull : goal.returns-then-overfull
-unfolding verdict_of line_of file_lines
-returns-then-overfull c =
-    let marked = c.before.before in
-    rw (
-      header-verdict,
-      le-ltb _ _ marked.if-file-lt-HEADER_BYTES.false,
-      ← marked.unmarked.ensures,
-      marked.if-unmarked.false,
-      ← c.overfull.ensures,
-      c.if-overfull.true,
-    ) refl
+pub returns-in_err-refuse_if-3 : goal.returns-in_err-refuse_if-3
+unfolding file_lines line_of number_of in_turn otherwise verdict_of fault_verdict
+returns-in_err-refuse_if-3 c = rw judge-in_turn (search rules)
 
-pub returns-then-misplaced : goal.returns-then-misplaced
-unfolding verdict_of line_of file_lines
-returns-then-misplaced c =
-    let counted = c.before.before in
-    let marked = counted.before.before in
-    rw (
-      header-verdict,
-      le-ltb _ _ marked.if-file-lt-HEADER_BYTES.false,
-      ← marked.unmarked.ensures,
-      marked.if-unmarked.false,
-      ← counted.overfull.ensures,
-      counted.if-overfull.false,
-      ← c.misplaced.ensures,
-      c.if-misplaced.true,
-    ) refl
-
-pub returns-then-file-file_end : goal.returns-then-file-file_end
-unfolding verdict_of line_of file_lines
-returns-then-file-file_end c =
-    let placed = c.before.before in
-    let counted = placed.before.before in
-    let marked = counted.before.before in
-    rw (
-      header-verdict,
-      le-ltb _ _ marked.if-file-lt-HEADER_BYTES.false,
-      ← marked.unmarked.ensures,
-      marked.if-unmarked.false,
-      ← counted.overfull.ensures,
-      counted.if-overfull.false,
-      ← placed.misplaced.ensures,
-      placed.if-misplaced.false,
-      ← c.file_end.ensures.right,
-      ne_eqb _ _ c.if-file-file_end.true,
-    ) refl
+pub returns-in_err-refuse_if-4 : goal.returns-in_err-refuse_if-4
+unfolding file_lines line_of number_of in_turn otherwise verdict_of fault_verdict
+returns-in_err-refuse_if-4 c = rw judge-in_turn (search rules)
 
 pub returns : goal.returns
-unfolding verdict_of line_of file_lines
-returns c =
-    let placed = c.before.before in
-    let counted = placed.before.before in
-    let marked = counted.before.before in
-    rw (
-      header-verdict,
-      le-ltb _ _ marked.if-file-lt-HEADER_BYTES.false,
-      ← marked.unmarked.ensures,
-      marked.if-unmarked.false,
-      ← counted.overfull.ensures,
-      counted.if-overfull.false,
-      ← placed.misplaced.ensures,
-      placed.if-misplaced.false,
-      ← c.file_end.ensures.right,
-      eq-eqb _ _ c.if-file-file_end.false,
-    ) refl
+unfolding file_lines line_of number_of in_turn otherwise verdict_of
+returns c = rw (judge-in_turn, otherwise_taken) (search rules)

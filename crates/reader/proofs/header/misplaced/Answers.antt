@@ -7,13 +7,13 @@ use Rattle.reader.proofs.header.misplaced.Goals as goal
 pub returns : goal.returns
 unfolding file_lines line_of
 returns c =
-    let d = c.before.before.before in
+    let s = c.of_header-starts.ensures in
     rw (
-      c.arcs_start.ensures.right,
       c.pair-4.ensures.right,
-      c.controls_start.ensures.right,
-      d.pair-3.ensures.right,
-      d.operations_start.ensures.right,
-      d.pair-2.ensures.right,
-      d.pair.ensures.right,
+      c.pair-3.ensures.right,
+      c.pair-2.ensures.right,
+      c.pair.ensures.right,
+      s.operations.right,
+      s.controls.right,
+      s.arcs.right,
     ) refl

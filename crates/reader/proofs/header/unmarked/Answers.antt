@@ -6,10 +6,4 @@ use Rattle.reader.proofs.header.unmarked.Goals as goal
 
 pub returns : goal.returns
 unfolding file_lines content line_of
-returns c =
-    rw (
-      c.known.ensures,
-      c.edition.ensures.right,
-      c.byte-2.ensures.right,
-      c.byte.ensures.right,
-    ) refl
+returns c = rw (c.known.ensures, c.edition.ensures.right, c.byte-2.ensures.right, c.byte.ensures.right) refl

@@ -5,4 +5,4 @@ use Rattle.scheduler.proofs.search.next_step.Goals as goal
 pub returns : goal.returns
 returns c g s w m h =
     let a = c.args in
-    step_found g w s a.moves a.from c.step_from.result m h c.step_from.ensures
+    step_found g w s a.moves.now a.from c.step_from.result m h c.step_from.ensures

@@ -1,7 +1,6 @@
 -- `scheduler::table::put_header` meets its contract. Assumes nothing.
 use Prim.Native.Nat.{ℕ}
 use mathlib.Core.Path.{◌∙◌, ap}
-use borrow.Author.Rules.{rules}
 use Rattle.meaning.specs.TableFile.{row_start, bytes_of}
 use Rattle.scheduler.specs.Writing.{written}
 use Rattle.scheduler.proofs.WriteLaws.{header-written}
@@ -15,27 +14,3 @@ returns c =
     a.edition a.cycles a.rows c.requires.edition_in_bounds c.requires.edition_bound.0 c.requires.edition_bound.1
     c.put.ensures c.put-2.ensures c.put-3.ensures c.put-4.ensures
     (c.put-5.ensures ∙ ap (λ (k : ℕ). written c.put-4.new.table 6 (bytes_of 2 k)) c.row_start.ensures.right)
-
-pub put-requires : goal.put-requires
-unfolding row_start
-put-requires c = search rules
-
-pub put-requires-2 : goal.put-requires-2
-unfolding row_start
-put-requires-2 c = search rules
-
-pub put-requires-3 : goal.put-requires-3
-unfolding row_start
-put-requires-3 c = search rules
-
-pub put-requires-4 : goal.put-requires-4
-unfolding row_start
-put-requires-4 c = search rules
-
-pub overflow_cast-row_start : goal.overflow_cast-row_start
-unfolding row_start
-overflow_cast-row_start c = search rules
-
-pub put-requires-5 : goal.put-requires-5
-unfolding row_start
-put-requires-5 c = search rules
