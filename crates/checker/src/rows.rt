@@ -1,4 +1,5 @@
 // The rows of a table file: what stands in them, their order, and searches over them. `as usize` on a u32: usize has no From<u32>.
+// A cycle and a state come apart, as in the definitions `stands_at`, `has_row` and `covered`.
 ghost use Rattle.std.specs.Prelude.{◌≡◌, ℕ, suc, ◌^◌, ◌&&◌, ltb, List, [], ◌∷◌};
 ghost use Rattle.machine.specs.Refusals.{judge};
 ghost use Rattle.machine.specs.Tables.{rises, stands_at, has_row, last_cycle, order_line};
@@ -102,7 +103,7 @@ pub(crate) fn last_cycle(table: &Table) -> u32
     table.row(n - 1).cycle
 }
 
-// Where the rows of cycles before t end.
+// Where the rows of cycles before t end. They are no more than all rows, so `as u32` loses nothing.
 pub(crate) fn cycle_start(table: &Table, t: u32) -> usize
     ensures { (file : List ℕ) → (content file).edition ≡ table.now.edition → result ≡ cycle_start file table.now.bytes.now t }
 {

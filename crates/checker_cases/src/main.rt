@@ -14,7 +14,7 @@ const GRAPH: [u8; 28] =
 const TABLE: [u8; 32] =
     *b"HT\x01\x02\x03\x00\x08\x00\x01\x00\x00\x00\x00\x01\x00\x00\x02\x00\x01\x00\x00\x04\x00\x00\x02\x01\x01\x00\x00\x02\x00\x00";
 
-// What the checker says of a table for a graph.
+// What the checker says of a table for a graph; both come apart, as `check` and `span_of` take them.
 fn show(rt: &impl Print, graph: &[u8], table: &[u8]) -> io::Result<()> {
     match checker::check(graph, table) {
         Ok(Acceptance { cycles, rows }) => println!(rt; "accepted {cycles} {rows}"),

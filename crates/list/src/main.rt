@@ -26,8 +26,8 @@ fn list(
     listing::put_listing(graph, answer, table, text)
 }
 
-// Reads until the buffer is full or the input ends, and gives how many bytes it put at the front. std's methods that read so
-// ask for a heap.
+// Reads until the buffer is full or the input ends, and gives how many bytes it put at the front. The rule of
+// no heap needs the loop: std's methods that read to the end ask for one.
 fn read_full<R: Read>(reader: &mut R, buffer: &mut [u8]) -> io::Result<usize>
     ensures { IfOk result (λ kept. kept ≤ length buffer.new) }
 {

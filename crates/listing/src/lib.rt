@@ -13,7 +13,8 @@ use parts::{Row, Table};
 use scheduler::Scheduled;
 
 // A lent buffer that is written from its front on, and where the text in it ends. What has no room is left out, and counted.
-// No `write!`: `put_listing`'s promise `Listed` is for every answer, and std promises the text only where no write failed.
+// Graph, answer and table come apart, as `Listed` speaks of them. No `write!`: `put_listing`'s promise `Listed` is for every answer,
+// and std promises the text only where no write failed.
 // `as u64` on a usize: u64 has no From<usize>. The rule of fixed memory needs `end`; each bound on it is what that text can add.
 #[derive(Drop)]
 struct Page<'a> {

@@ -15,7 +15,7 @@ use parts::Graph;
 use refusals::Fault;
 
 // The number of a success, and a count or a place that there is not. The C interface needs numbers for both, a struct for each kind
-// of answer, and a usize for a u32, which is no From.
+// of answer, graph and table apart, and a usize for a u32, which is no From.
 const SUCCESS: usize = 0;
 
 const NONE: usize = 0;

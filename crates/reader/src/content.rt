@@ -1,6 +1,6 @@
 // Refusals 6 to 11: for each a test of one place, and the first place at fault. They know a graph alone, no file. Tests over two
-// kinds of places are nested loops that end at the first fault, where `break` yields the refusal and the place: a `for` yields no
-// value, so the label stands on the block round them. The conditions of
+// kinds of places are nested loops that end at the first fault, where `break` yields the refusal and the place: document 01 names
+// that form, so no `first_fault` there. A `for` yields no value, so the label stands on the block round them. The conditions of
 // a test are joined by & and |, since each is a look at a few bytes.
 ghost use Rattle.std.specs.Prelude.{◌≡◌};
 ghost use Rattle.meaning.specs.Graph.{stray_path, follows_join, unordered};

@@ -1,4 +1,5 @@
-// The exact scheduler: the shortest table of a graph, in work slots and a table buffer that the caller lends.
+// The exact scheduler: the shortest table of a graph, in work slots and a table buffer that the caller lends. The C interface lends
+// graph, slots and table apart, and `Promised` speaks of each. `as usize` on a u32: usize has no From<u32>.
 
 #![tactic(auto)]
 

@@ -1,5 +1,5 @@
 // The schedule's rows: the states of all words side by side, cycle by cycle, with the chosen step of each. The rule of fixed memory
-// needs room for sixteen, whatever the words are.
+// needs room for sixteen, whatever the words are. `as usize` on a u32: usize has no From<u32>.
 ghost use Rattle.std.specs.Prelude.{◌≡◌, ◌<◌};
 ghost use Rattle.machine.specs.Machine.{leads, finish, best};
 ghost use Rattle.meaning.specs.Steps.{machine_of};

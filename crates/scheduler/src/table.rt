@@ -28,6 +28,7 @@ pub(crate) fn put_header(table: &mut [u8], edition: u32, cycles: u32, rows: u32)
     put(table, 2, 1, edition);
     put(table, 3, 1, cycles);
     put(table, 4, 2, rows);
+    // The header's own length, so that `as u32` loses nothing.
     put(table, 6, 2, parts::row_start(edition, 0) as u32);
 }
 

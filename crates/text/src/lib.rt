@@ -26,7 +26,7 @@ pub fn put_decimal(out: &mut [u8], at: usize, number: u64) -> usize
     ensures counted { Counted (decimal number) result }
     ensures out_after { out.new ≡ laid out.old at (decimal number) }
 {
-    // The last digit is written first; the number runs out before the places do.
+    // The last digit is written first; the number runs out before the places do. A digit is below 10, so `as u8` loses nothing.
     let mut digits = [0u8; MOST_DIGITS];
     let mut rest = number;
     for first in (0..MOST_DIGITS).rev() {

@@ -28,7 +28,8 @@ fn judge_lists(graph: &Graph) -> Result<(), Fault>
     refuse_if(graph.torn(), Refusal::Length)
 }
 
-// Where the operations, the controls and the arcs will stand in the file, and where it will end.
+// Where the operations, the controls and the arcs will stand in the file, and where it will end. Plainer apart from
+// `Starts::of_header`: that goes by a header's counts, this by the lists' lengths, and their bounds differ.
 fn starts_of(graph: &Graph) -> Starts
     requires { 16 + length graph.now.limits.now + length graph.now.operations.now
         + length graph.now.controls.now + length graph.now.arcs.now < 2 ^ 16 }
@@ -45,7 +46,7 @@ fn starts_of(graph: &Graph) -> Starts
     }
 }
 
-// A number in two bytes, the low byte first.
+// A number in two bytes, the low byte first. It is below 2 ^ 16, so `as u16` loses nothing.
 #[tactic(auto, unfolding(meaning::specs::TableFile::bytes_of))]
 fn pair(number: usize) -> [u8; 2]
     requires { number < 2 ^ 16 }
@@ -99,7 +100,7 @@ impl<'a> Layout<'a> {
     }
 
     // Writes the file, as far as the output goes: the header and then the parts, each where it stands. Plainer so than in a loop
-    // over the parts and their places.
+    // over the parts and their places: each call names its part.
     fn put(&self, output: &mut [u8])
         ensures { output.new ≡ laid output.old 0 (graph_file (graph_in self.now.graph)) }
     {

@@ -60,7 +60,7 @@ fn into(rt: &impl Print, graph: &Graph, room: usize) -> io::Result<()> {
     }
 }
 
-// A list of 15 bytes with the byte at i set to x.
+// A list of 15 bytes with the byte at i set to x. Plainer as two numbers: no case changes more than one byte.
 fn changed(list: [u8; 15], i: usize, x: u8) -> [u8; 15] {
     let mut other = list;
     if let Some(byte) = other.get_mut(i) {
