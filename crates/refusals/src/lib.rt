@@ -3,7 +3,7 @@
 
 #![tactic(auto)]
 
-ghost use Rattle.std.specs.Prelude.{◌≡◌, ℕ, Bool, Some, [], ◌∷◌};
+ghost use Rattle.std.specs.Prelude.{◌≡◌, ℕ, ◌<◌, Bool, Some, [], ◌∷◌};
 ghost use Rattle.machine.specs.Refusals.{line, placeless, judge};
 ghost use Rattle.refusals.specs.Faults.{number_of, shown, verdict_of};
 
@@ -81,7 +81,7 @@ pub fn first_fault<F: Fn(usize) -> bool>(
     test: F,
 ) -> Result<(), Fault>
     requires { F.IsAlwaysCallable test }
-    ensures { (fault : ℕ → Bool) → ((p : ℕ) (r : Bool) → F.post test p r → r ≡ fault p)
+    ensures { (fault : ℕ → Bool) → ((p : ℕ) (r : Bool) → p < places → F.post test p r → r ≡ fault p)
         → verdict_of result ≡ judge (line (number_of refusal) places fault ∷ []) }
 {
     for place in 0..places {

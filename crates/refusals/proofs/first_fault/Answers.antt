@@ -13,11 +13,11 @@ loop-place-init g c = λ fault says. below_none _
 pub returns-then-test : goal.returns-then-test
 unfolding verdict_of fault_verdict
 returns-then-test g c = λ fault says.
-    sym (refused-at (line (number_of c.args.refusal) c.args.places fault) c.loop-place.place (c.loop-place.invariant fault says) c.loop-place-test.true (sym (says _ _ c.test.ensures) ∙ c.if-test.true))
+    sym (refused-at (line (number_of c.args.refusal) c.args.places fault) c.loop-place.place (c.loop-place.invariant fault says) c.loop-place-test.true (sym (says _ _ c.loop-place-test.true c.test.ensures) ∙ c.if-test.true))
 
 pub loop-place-preserved : goal.loop-place-preserved
 loop-place-preserved g c = λ fault says.
-    below_more _ _ (c.loop-place.invariant fault says) (sym (says _ _ c.test.ensures) ∙ c.if-test.false)
+    below_more _ _ (c.loop-place.invariant fault says) (sym (says _ _ c.loop-place-test.true c.test.ensures) ∙ c.if-test.false)
 
 pub returns : goal.returns
 unfolding verdict_of fault_verdict

@@ -15,5 +15,5 @@ pub returns : goal.returns
 unfolding number_of order_line table_in
 returns c g of =
     let fault : ℕ → Bool = (order g c.args.table.now.bytes.now).fault in
-    c.first_fault.ensures (λ p. ltb p (2 ^ 32) && fault p) (λ p r h. search rules)
+    c.first_fault.ensures (λ p. ltb p (2 ^ 32) && fault p) (λ p r l h. search rules)
     ∙ near_places 16 _ _ fault c.row_count.ensures

@@ -9,4 +9,4 @@ use Rattle.reader.proofs.content.paths.Goals as goal
 pub returns : goal.returns
 unfolding content_lines line_of control_count number_of
 returns c =
-    rw c.operation_count.ensures at c.first_fault.ensures (fault_at 7 (graph_in c.args.graph.now)) (λ p r h. search rules)
+    rw c.operation_count.ensures at c.first_fault.ensures (fault_at 7 (graph_in c.args.graph.now)) (λ p r l h. search rules)

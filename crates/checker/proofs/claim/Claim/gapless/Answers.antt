@@ -14,5 +14,5 @@ pub returns : goal.returns
 unfolding number_of gap_line
 returns c =
     let fault : ℕ → Bool = (gap_line (graph_of c.args.self.now) (file_of c.args.self.now)).fault in
-    c.first_fault.ensures (λ p. ltb p (2 ^ 32) && fault p) (λ p r h. search rules)
+    c.first_fault.ensures (λ p. ltb p (2 ^ 32) && fault p) (λ p r l h. search rules)
     ∙ near_places 19 _ _ fault c.row_count.ensures
