@@ -19,7 +19,7 @@ module _ (file table : List ℕ) where
   check-verdict = judge-append (graph_lines file) (table_lines (content file) table)
 
   -- the answers
-  refused-answer : (f : Fault) → check_verdict file table ≡ fault_verdict f → values_of (Err f) ≡ checker file table
+  pub refused-answer : (f : Fault) → check_verdict file table ≡ fault_verdict f → values_of (Err f) ≡ checker file table
   unfolding values_of fault_verdict checker answer
   refused-answer f e = rw e refl
 

@@ -43,12 +43,13 @@ pub(crate) fn layout(table: &Table) -> Result<(), Fault>
     refuse_if(misshapen(table), Refusal::Layout)
 }
 
-// Row a stands before row b: by cycle, then by their states' order.
-#[tactic(auto, unfolding(machine::specs::Tables::rises, meaning::specs::Steps::before, parts::specs::Fields::row_of))]
+// Row a stands before row b: by cycle, then by their states' order. It goes by `before`, so that what that promises holds the
+// code that runs.
+#[tactic(auto, unfolding(machine::specs::Tables::rises, parts::specs::Fields::row_of))]
 fn rises(a: Row, b: Row) -> bool
     ensures { (g : Graph) → result ≡ rises (machine_of g) (row_of g a) (row_of g b) }
 {
-    (a.cycle, a.state) < (b.cycle, b.state)
+    (a.cycle < b.cycle) | ((a.cycle == b.cycle) & steps::before(a.state, b.state))
 }
 
 // The row at this place, counted from 1, is not above the row before. No row stands at a place that is no u32.
@@ -80,7 +81,7 @@ fn stands_at(table: &Table, t: u32, s: State, i: u32) -> bool
         (λ g. result ≡ stands_at (machine_of g) (table_in g table.now.bytes.now) t (state_of s) (suc i)) }
 {
     let row = table.row(i);
-    (row.cycle == t) & (row.state == s)
+    (row.cycle == t) & steps::same(row.state, s)
 }
 
 // Some row does.

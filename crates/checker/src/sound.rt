@@ -23,7 +23,7 @@ use steps::Fork;
 fn leads(graph: &Graph, fork: Fork, s: State) -> bool
     ensures { result ≡ any_below (word_count (graph_in graph.now)) (λ w. same (fallen fork w) (state_of s)) }
 {
-    (0..steps::word_count(graph)).any(|w| fork.fallen(w) == s)
+    (0..steps::word_count(graph)).any(|w| steps::same(fork.fallen(w), s))
 }
 
 impl<'a> Claim<'a> {
@@ -57,7 +57,7 @@ impl<'a> Claim<'a> {
             result ≡ follows (machine_of g) (table_in g (file_of self.now)) (suc i) }
     {
         let p = self.row(i);
-        let starts = (p.cycle == 1) & (steps::start() == p.state);
+        let starts = (p.cycle == 1) & steps::same(steps::start(), p.state);
         starts || (0..self.table.row_count()).any(|j| self.comes_from(j, p))
     }
 

@@ -1,6 +1,6 @@
 -- A number of a file by its bytes; bytes beyond the end are 0. Assumes nothing.
 use Prim.Native.Nat.{ℕ, zero, suc, ◌+◌, ◌-◌, ◌*◌, ◌^◌, ◌≤◌, ◌<◌}
-use native.Mathlib.Nat.{suc-add, zero-add, sub-zero, pow-suc, pow-le-pow_right}
+use native.Mathlib.Nat.{suc-add, zero-add, add-zero, sub-zero, pow-suc, pow-le-pow_right}
 use native.Mathlib.Numerals.{one-add}
 use native.Mathlib.Omega.{arith}
 use mathlib.Core.Path.{◌≡◌, refl, sym, ◌∙◌}
@@ -26,6 +26,9 @@ unfolding number_at little_endian
 number_none [] i = simp (take-nil, drop-nil) refl
 number_none (x ∷ l) zero = rw (zero-add 0) refl
 number_none (x ∷ l) (suc i) = rw (suc-add i 0) (number_none l i)
+
+pub number-one : (l : List ℕ) (i : ℕ) → number_at l i 1 ≡ byte_at l i
+number-one l i = rw (number_step l i 0, number_none l (i + 1), add-zero (byte_at l i)) refl
 
 -- a number that starts beyond the end is 0
 pub number_past : (l : List ℕ) (i size : ℕ) → length l ≤ i → number_at l i size ≡ 0

@@ -12,6 +12,7 @@ ghost use Rattle.meaning.specs.Writer.{torn};
 ghost use Rattle.numbers.specs.Reads.{Reads};
 ghost use Rattle.parts.specs.Fields.{graph_in, kind_of, is_follow, is_unknown, Maxima, Counted, CountsOf, StartsOf, Stands, Lent, Cut, IsOperation, IsArc, IsRow, OfEdition};
 
+use masks::Set;
 use numbers::{byte, number, pair};
 
 // The bytes of a graph file's header, and of a table's.
@@ -261,7 +262,7 @@ impl<'a> Graph<'a> {
             & (self.arcs.len() % ARC_BYTES == 0))
     }
 
-    // The limit of class k. Kept for its promise; `steps` reads all limits in one loop.
+    // The limit of class k.
     pub fn limit(&self, k: usize) -> u8
         ensures { result ≡ limit (graph_in self.now) k }
     {
@@ -365,7 +366,7 @@ fn record<'a>(part: &'a [u8], size: usize, j: usize) -> &'a [u8]
 #[derive(Clone, Copy, PartialEq, Eq, PartialOrd, Ord)]
 pub struct State {
     pub values: u32,
-    pub done: u32,
+    pub done: Set,
 }
 
 // What stands in a table's row.
@@ -373,7 +374,7 @@ pub struct State {
 pub struct Row {
     pub cycle: u32,
     pub state: State,
-    pub step: u32,
+    pub step: Set,
 }
 
 // A table file: the edition of its graph, and its bytes.

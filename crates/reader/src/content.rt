@@ -1,7 +1,7 @@
 // Refusals 6 to 11: for each a test of one place, and the first place at fault. They know a graph alone, no file. Tests over two
-// kinds of places are nested loops that end at the first fault, where `break` yields the refusal and the place: document 01 names
-// that form, so no `first_fault` there. A `for` yields no value, so the label stands on the block round them. The conditions of
-// a test are joined by & and |, since each is a look at a few bytes.
+// kinds of places are labelled loops that end at the first fault, where `break` yields the refusal and the place: document 01 names
+// that form, so neither `first_fault` nor `for`, which yields no value, stands there. The conditions of a test are joined by
+// & and |, since each is a look at a few bytes.
 ghost use Rattle.std.specs.Prelude.{◌≡◌};
 ghost use Rattle.meaning.specs.Graph.{stray_path, follows_join, unordered};
 ghost use Rattle.parts.specs.Fields.{graph_in, IsArc};
@@ -49,22 +49,29 @@ pub(crate) fn paths(graph: &Graph) -> Result<(), Fault>
 pub(crate) fn producers(graph: &Graph) -> Result<(), Fault>
     ensures { verdict_of result ≡ verdict_at 8 (graph_in graph.now) }
 {
-    'controls: {
-        for b in 0..graph.controls.len() {
-            let fault = Fault {
-                refusal: Refusal::Producer,
-                place: b,
-            };
-            if graph.operation_count() <= graph.producer(b) {
+    let mut b = 0;
+    'controls: loop {
+        if b == graph.controls.len() {
+            break 'controls Ok(());
+        }
+        let fault = Fault {
+            refusal: Refusal::Producer,
+            place: b,
+        };
+        if graph.operation_count() <= graph.producer(b) {
+            break 'controls Err(fault);
+        }
+        let mut d = 0;
+        'earlier: loop {
+            if d == b {
+                break 'earlier;
+            }
+            if graph.producer(d) == graph.producer(b) {
                 break 'controls Err(fault);
             }
-            for d in 0..b {
-                if graph.producer(d) == graph.producer(b) {
-                    break 'controls Err(fault);
-                }
-            }
+            d += 1;
         }
-        Ok(())
+        b += 1;
     }
 }
 
@@ -75,25 +82,32 @@ fn stray(graph: &Graph, j: usize, x: usize) -> bool
     let above = graph.producer(x);
     let own = graph.operation(j).path;
     names(own, x)
-        & (lacks(graph.controls.len(), graph.operation(above).path, own, own) | (above == j))
+        && (lacks(graph.controls.len(), graph.operation(above).path, own, own) | (above == j))
 }
 
 // Refusal 9: the first operation whose path is stray at a control.
 pub(crate) fn branches(graph: &Graph) -> Result<(), Fault>
     ensures { verdict_of result ≡ verdict_at 9 (graph_in graph.now) }
 {
-    'operations: {
-        for j in 0..graph.operation_count() {
-            for x in 0..graph.controls.len() {
-                if stray(graph, j, x) {
-                    break 'operations Err(Fault {
-                        refusal: Refusal::Branch,
-                        place: j,
-                    });
-                }
-            }
+    let mut j = 0;
+    'operations: loop {
+        if j == graph.operation_count() {
+            break 'operations Ok(());
         }
-        Ok(())
+        let mut x = 0;
+        'controls: loop {
+            if x == graph.controls.len() {
+                break 'controls;
+            }
+            if stray(graph, j, x) {
+                break 'operations Err(Fault {
+                    refusal: Refusal::Branch,
+                    place: j,
+                });
+            }
+            x += 1;
+        }
+        j += 1;
     }
 }
 

@@ -31,11 +31,11 @@ put_above : (low field k : ℕ) → low < 2 ^ k → field * 2 ^ k < 2 ^ 64 → b
 put_above low field k h l = ap (bit_or low) (mod-eq_of_lt l) ∙ or_shifted_r field k low h ∙ add_comm (field * 2 ^ k) low
 
 -- the key and the slot, as shifts make them
-key_packed : (s : State) → Fits s → bit_or s.done (s.values * 2 ^ values_bit % 2 ^ 64) ≡ key_of s
+pub key_packed : (s : State) → Fits s → bit_or s.done (s.values * 2 ^ values_bit % 2 ^ 64) ≡ key_of s
 unfolding key_of
 key_packed s f = put_above s.done s.values values_bit f.done (omega (arith, f.values))
 
-slot_packed : (s : State) (key number : ℕ) → Fits s → number < 2 ^ 6 → key ≡ key_of s
+pub slot_packed : (s : State) (key number : ℕ) → Fits s → number < 2 ^ 6 → key ≡ key_of s
     → bit_or (bit_or key (number * 2 ^ number_bit % 2 ^ 64)) (2 ^ mark_bit) ≡ slot_of s number
 unfolding slot_of key_of
 slot_packed s key number f h e =

@@ -25,7 +25,7 @@ pub fn start() -> State
     State { values: 0, done: 0 }
 }
 
-// Both states are the same. Kept beside `==` for its promise, which says what that computes in the definitions' words.
+// Both states are the same. All who compare states ask here: it promises what `==` computes, in the definitions' words.
 #[tactic(auto, unfolding(meaning::specs::Steps::same))]
 pub fn same(a: State, b: State) -> bool
     ensures { result ≡ same (state_of a) (state_of b) }
@@ -33,7 +33,7 @@ pub fn same(a: State, b: State) -> bool
     a == b
 }
 
-// State a comes before state b in the rows of one cycle. Kept beside `<` for its promise, as `same` is.
+// State a comes before state b in the rows of one cycle. All who order states ask here, as for `same`.
 #[tactic(auto, unfolding(meaning::specs::Steps::before))]
 pub fn before(a: State, b: State) -> bool
     ensures { result ≡ before (state_of a) (state_of b) }

@@ -43,7 +43,7 @@ fn empty_classes(graph: &Graph) -> [Class; 8]
     for k in 0..graph.limits.len().min(8) {
         classes[k] = Class {
             members: 0,
-            limit: graph.limits[k],
+            limit: graph.limit(k),
         };
     }
     classes

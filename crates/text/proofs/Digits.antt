@@ -52,7 +52,7 @@ first_digit first rest tail h =
     (sym (lt-ltb rest 10 h))
 
 -- a rest of more than one digit needs more than one place
-more_places : (places rest : ℕ) → rest < 10 ^ places → 10 ≤ rest → 1 < places
+pub more_places : (places rest : ℕ) → rest < 10 ^ places → 10 ≤ rest → 1 < places
 more_places zero rest l h = omega arith
 more_places (suc zero) rest l h = omega arith
 more_places (suc (suc k)) rest l h = omega arith
@@ -88,7 +88,7 @@ module _ (line : List ℕ) (places rest : ℕ) (some : 0 < places) (below : plac
       next : suc (places - 1) ≡ places
       next = omega arith
 
-  whole_length : 20 - (places - 1) ≡ length (digits places rest ++ drop places line)
+  pub whole_length : 20 - (places - 1) ≡ length (digits places rest ++ drop places line)
   whole_length =
       ap (λ (n : ℕ). n - (places - 1)) (sym (length-set line (places - 1) (48 + rest) ∙ long))
       ∙ sym (length-drop (places - 1) (set line (places - 1) (48 + rest))) ∙ ap length whole_line

@@ -1,11 +1,12 @@
--- Text laid into a buffer: nothing, past the end, as much as has room, one text behind another, and a text that has room.
--- Assumes nothing.
-use Prim.Native.Nat.{ℕ, zero, suc, ◌+◌, ◌-◌, ◌≤◌, min}
+-- Text laid into a buffer: nothing, past the end, byte by byte, one text behind another, and a text that has room. Assumes
+-- nothing.
+use Prim.Native.Nat.{ℕ, zero, suc, ◌+◌, ◌≤◌, ◌<◌}
 use native.Mathlib.Nat.{zero-add, suc-add, not-suc-le-zero, le_of_suc-le-suc}
-use native.Mathlib.Omega.{arith}
+use native.Mathlib.Numerals.{add-one}
 use mathlib.Core.Path.{◌≡◌, refl, ◌∙◌, ap}
 use mathlib.Core.List.{List, [], ◌∷◌, ◌++◌}
-use lib.ListN.{length, take, drop}
+use lib.ListN.{length, get_or, set, drop}
+use lib.Seq.{drop-cons}
 use Rattle.text.specs.Writing.{laid}
 
 pub laid_none : (out : List ℕ) (at : ℕ) → laid out at [] ≡ out
@@ -20,24 +21,11 @@ laid-past [] at bytes h = refl
 laid-past (b ∷ out) zero bytes h = absurd (not-suc-le-zero h)
 laid-past (b ∷ out) (suc at) bytes h = ap (λ (l : List ℕ). b ∷ l) (laid-past out at bytes (le_of_suc-le-suc h))
 
--- as much of a text as has room, in the place of as many bytes of the buffer
-front_part : (out bytes : List ℕ) (k : ℕ) → k ≡ min (length bytes) (length out) → take k bytes ++ drop k out ≡ laid out 0 bytes
+pub laid_set : (out : List ℕ) (at x : ℕ) (bytes : List ℕ) → at < length out → laid (set out at x) (suc at) bytes ≡ laid out at (x ∷ bytes)
 unfolding laid
-front_part [] [] zero e = refl
-front_part [] (x ∷ bytes) zero e = refl
-front_part [] bytes (suc k) e = absurd (omega (arith, e))
-front_part (b ∷ out) [] zero e = refl
-front_part (b ∷ out) [] (suc k) e = absurd (omega (arith, e))
-front_part (b ∷ out) (x ∷ bytes) zero e = absurd (omega (arith, e))
-front_part (b ∷ out) (x ∷ bytes) (suc k) e = ap (λ (l : List ℕ). x ∷ l) (front_part out bytes k (omega (arith, e)))
-
-pub laid_part : (out bytes : List ℕ) (at k : ℕ) → at ≤ length out → k ≡ min (length bytes) (length out - at)
-    → take at out ++ (take k bytes ++ drop k (drop at out)) ≡ laid out at bytes
-unfolding laid
-laid_part [] bytes zero k h e = front_part [] bytes k (omega (arith, e))
-laid_part [] bytes (suc at) k h e = absurd (omega (arith, h))
-laid_part (b ∷ out) bytes zero k h e = front_part (b ∷ out) bytes k (omega (arith, e))
-laid_part (b ∷ out) bytes (suc at) k h e = ap (λ (l : List ℕ). b ∷ l) (laid_part out bytes at k (omega (arith, h)) (omega (arith, e)))
+laid_set [] at x bytes h = absurd (not-suc-le-zero h)
+laid_set (b ∷ out) zero x bytes h = refl
+laid_set (b ∷ out) (suc at) x bytes h = ap (λ (l : List ℕ). b ∷ l) (laid_set out at x bytes (le_of_suc-le-suc h))
 
 then_front : (out a b : List ℕ) → laid (laid out 0 a) (length a) b ≡ laid out 0 (a ++ b)
 unfolding laid
@@ -61,3 +49,9 @@ laid_whole [] [] h = refl
 laid_whole [] (x ∷ bytes) h = absurd (not-suc-le-zero h)
 laid_whole (b ∷ out) [] h = refl
 laid_whole (b ∷ out) (x ∷ bytes) h = ap (λ (l : List ℕ). x ∷ l) (laid_whole out bytes (le_of_suc-le-suc h))
+
+-- one byte more
+pub laid_turn : (out bytes : List ℕ) (to i : ℕ) → to < length out → i < length bytes
+    → laid (set out to (get_or bytes i 0)) (to + 1) (drop (i + 1) bytes) ≡ laid out to (drop i bytes)
+laid_turn out bytes to i h k =
+    rw (add-one to, add-one i, drop-cons bytes i 0 k) (laid_set out to (get_or bytes i 0) (drop (suc i) bytes) h)

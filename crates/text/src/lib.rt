@@ -10,13 +10,15 @@ ghost use Rattle.text.specs.Writing.{laid, Counted};
 // The digits of a number of 64 bits are no more than these.
 const MOST_DIGITS: usize = 20;
 
-// Writes the bytes from `at` on.
+// Writes the bytes from `at` on. The C interface needs the loop: with `copy_from_slice` its library asks for memmove from outside.
 pub fn put(out: &mut [u8], at: usize, bytes: &[u8])
     ensures { out.new ≡ laid out.old at bytes.now }
 {
-    if at < out.len() {
-        let count = bytes.len().min(out.len() - at);
-        out[at..at + count].copy_from_slice(&bytes[..count]);
+    for to in at..out.len() {
+        if to - at == bytes.len() {
+            return;
+        }
+        out[to] = bytes[to - at];
     }
 }
 

@@ -14,31 +14,35 @@ use Rattle.reader.specs.Reading.{line_of}
 use Rattle.reader.proofs.content.producers.Goals as goal
 use Rattle.reader.proofs.content.producers.Invariants.{same}
 
-pub loop-d-preserved : goal.loop-d-preserved
-loop-d-preserved c =
-    below_more _ _ c.loop-d.invariant
-    (rw (← c.producer-in-loop-d.ensures, ← c.producer-in-loop-d-2.ensures) (ne_eqb _ _ c.if-producer.false))
+pub earlier-preserved : goal.earlier-preserved
+earlier-preserved c = (
+  omega arith,
+  below_more _ _ c.earlier.invariant.1
+      (rw (← c.producer-in-earlier.ensures, ← c.producer-in-earlier-2.ensures) (ne_eqb _ _ c.if-producer.false)),
+)
 
-pub loop-b-preserved : goal.loop-b-preserved
+pub controls-preserved : goal.controls-preserved
 unfolding line_of content_lines
-loop-b-preserved c =
-    let none = any_none (same (graph_in c.args.graph.now) c.loop-b.b) c.loop-b.b c.loop-d.d (omega (arith, c.loop-d-test.false)) c.loop-d.invariant in
-    below_more _ _ c.loop-b.invariant
-    (rw (none, ← c.operation_count.ensures, ← c.producer.ensures, lt-leb _ _ c.if-operation_count-producer.false) refl)
+controls-preserved c =
+    let none = any_none (same (graph_in c.args.graph.now) c.controls.b) c.controls.b c.earlier.d (omega (arith, c.if-d-b.true)) c.earlier.invariant.1 in (
+      omega arith,
+      below_more _ _ c.controls.invariant.1
+          (rw (none, ← c.operation_count.ensures, ← c.producer.ensures, lt-leb _ _ c.if-operation_count-producer.false) refl),
+    )
+
+pub returns-then-b-graph : goal.returns-then-b-graph
+unfolding line_of content_lines control_count verdict_of
+returns-then-b-graph c = sym (taken-after _ _ c.controls.invariant.1 (omega (arith, c.if-b-graph.true)))
 
 pub returns-then-operation_count-producer : goal.returns-then-operation_count-producer
 unfolding line_of content_lines control_count number_of verdict_of fault_verdict
 returns-then-operation_count-producer c =
-    sym (refused-at _ _ c.loop-b.invariant c.loop-b-test.true
+    sym (refused-at _ _ c.controls.invariant.1 (omega (arith, c.controls.invariant.0, c.if-b-graph.false))
     (rw (← c.operation_count.ensures, ← c.producer.ensures, le-leb _ _ c.if-operation_count-producer.true) refl))
 
 pub returns-then-producer : goal.returns-then-producer
 unfolding line_of content_lines control_count number_of verdict_of fault_verdict
 returns-then-producer c =
-    let found = any_found (same (graph_in c.args.graph.now) c.loop-b.b) c.loop-b.b c.loop-d.d c.loop-d-test.true
-    (rw (← c.producer-in-loop-d.ensures, ← c.producer-in-loop-d-2.ensures) (eq-eqb _ _ c.if-producer.true)) in
-    sym (refused-at _ _ c.loop-b.invariant c.loop-b-test.true (rw (found, or-true) refl))
-
-pub returns-after-loop-b : goal.returns-after-loop-b
-unfolding line_of content_lines control_count verdict_of
-returns-after-loop-b c = sym (taken-after _ _ c.loop-b.invariant (omega (arith, c.loop-b-test.false)))
+    let found = any_found (same (graph_in c.args.graph.now) c.controls.b) c.controls.b c.earlier.d (omega (arith, c.earlier.invariant.0, c.if-d-b.false))
+    (rw (← c.producer-in-earlier.ensures, ← c.producer-in-earlier-2.ensures) (eq-eqb _ _ c.if-producer.true)) in
+    sym (refused-at _ _ c.controls.invariant.1 (omega (arith, c.controls.invariant.0, c.if-b-graph.false)) (rw (found, or-true) refl))
