@@ -1,7 +1,7 @@
 // Refusals 6 to 11: for each a test of one place, and the first place at fault. They know a graph alone, no file. Tests over two
 // kinds of places are labelled loops that end at the first fault, where `break` yields the refusal and the place: document 01 names
 // that form, so neither `first_fault` nor `for`, which yields no value, stands there. The conditions of a test are joined by
-// & and |, since each is a look at a few bytes.
+// & and |, since each is a look at a few bytes; but `stray` reads another operation only where it has to.
 ghost use Rattle.std.specs.Prelude.{◌≡◌};
 ghost use Rattle.meaning.specs.Graph.{stray_path, follows_join, unordered};
 ghost use Rattle.parts.specs.Fields.{graph_in, IsArc};

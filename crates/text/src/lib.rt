@@ -14,11 +14,15 @@ const MOST_DIGITS: usize = 20;
 pub fn put(out: &mut [u8], at: usize, bytes: &[u8])
     ensures { out.new ≡ laid out.old at bytes.now }
 {
-    for to in at..out.len() {
-        if to - at == bytes.len() {
+    if out.len() <= at {
+        return;
+    }
+    let room = out.len() - at;
+    for i in 0..bytes.len() {
+        if i == room {
             return;
         }
-        out[to] = bytes[to - at];
+        out[at + i] = bytes[i];
     }
 }
 
